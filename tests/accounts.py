@@ -1,12 +1,14 @@
 """The accounts file, and who may log in."""
 import calendar
+import hashlib
+import json
 import os
 import re
 import socket
 import subprocess
 import time
 
-from harness import CLOSED, FULL, Case, Failed, Has, Test, put_files, start, want
+from harness import CLOSED, FULL, Case, Failed, Has, Test, play, put_files, start, want
 
 ARGS = "--stdin --replica 1 --accounts accounts"
 TWO = "author ann t1\npeer 2 p2 127.0.0.1:7402\n"
@@ -116,7 +118,7 @@ def accounts_change_while_the_server_runs():
 # What is said of each kind of mistake.
 TAB = "the line has a tab; words are separated by one space"
 SPACE = "a space is at the start, at the end or after another space"
-WORD = "the first word is neither author nor peer"
+WORD = "the first word is none of author, hash, peer and person"
 NO_NAME = "the name is missing: author NAME TOKEN"
 NO_NUMBER = "the number is missing: peer NUMBER TOKEN HOST:PORT"
 NO_TOKEN = "the token is missing"
@@ -135,10 +137,129 @@ COLON = "the address has no colon: HOST:PORT"
 NAME_TWICE = "an earlier line has this author's name"
 NUMBER_TWICE = "an earlier line has this peer's number"
 MANY = "there are more than 1000 accounts"
+NO_HASH_NAME = "the name is missing: hash NAME SHA256"
+NO_HASH = "the hash is missing: hash NAME SHA256"
+HASH_LENGTH = "the hash is not 64 digits long: the SHA-256 of the token in hex"
+HASH_DIGIT = "the hash has a character other than 0-9 and a-f"
+NO_PERSON = "the name is missing: person NAME ID DISPLAY NAME"
+NO_ID = "the ID is missing: person NAME ID DISPLAY NAME, with - for no ID"
+NO_DISPLAY = "the display name is missing: person NAME ID DISPLAY NAME"
+LONG_ID = "the ID is longer than 255 bytes"
+ID_BYTE = "the ID has a byte other than 0x21 to 0x7E"
+DISPLAY_BYTES = "the display name is not UTF-8"
+DISPLAY_CONTROL = "the display name has a control character"
+LONG_DISPLAY = "the display name is longer than 60 characters"
+PERSON_TWICE = "an earlier line has this person's name"
+ID_TWICE = "an earlier line has this person's ID"
+MANY_PEOPLE = "there are more than 100000 persons"
 
 
 def session(name, text, asked, answered, args=ARGS):
     return Case(f"accounts: {name}", args, asked, answered, files=(("accounts", text),))
+
+
+# The SHA-256 of the token t1, and that of t2.
+HASH = hashlib.sha256(b"t1").hexdigest()
+OTHER_HASH = hashlib.sha256(b"t2").hexdigest()
+HASHED = f"hash ann {HASH}\nauthor bob t2\n"
+PEOPLE = "person ann ann@example.org Ann Example\nperson bob - Bób of the Fen ✎\nperson cyd cyd C\n"
+
+
+def people(*authors):
+    return json.dumps({"do": "people", "authors": authors}) + "\n"
+
+
+def told(*people):
+    """The reply that gives these authors these display names."""
+    pairs = [{"author": author, "name": name} for author, name in people]
+    return json.dumps({"ok": True, "people": pairs}, ensure_ascii=False, separators=(",", ":")) + "\n"
+
+
+HASHES = [
+    session("the token of a hash", HASHED, hello("ann", "t1"), ANN),
+    session("another token than that of a hash", HASHED, hello("ann", "t2"), BAD_TOKEN),
+    session("a hash as a token", HASHED, hello("ann", HASH), BAD_TOKEN),
+    session("a token beside a hash", HASHED, hello("bob", "t2"), '{"author":"bob@1","ok":true}\n'),
+    session("the token of another's hash", HASHED, hello("bob", "t1"), BAD_TOKEN),
+    session("two with one hash", HASHED + f"hash cyd {HASH}\n", hello("cyd", "t1"), '{"author":"cyd@1","ok":true}\n'),
+    bad("no name and no hash", "hash\n", 1, NO_HASH_NAME),
+    bad("no hash", "hash ann\n", 1, NO_HASH),
+    bad("a token for a hash", "hash ann t1\n", 1, HASH_LENGTH),
+    bad("a hash of 63 digits", f"hash ann {HASH[1:]}\n", 1, HASH_LENGTH),
+    bad("a hash of 65 digits", f"hash ann {HASH}0\n", 1, HASH_LENGTH),
+    bad("a hash of 128 digits", f"hash ann {HASH}{HASH}\n", 1, HASH_LENGTH),
+    bad("a hash in capitals", f"hash ann {HASH.upper()}\n", 1, HASH_DIGIT),
+    bad("a hash with a g", f"hash ann {HASH[:-1]}g\n", 1, HASH_DIGIT),
+    bad("a hash with a colon", f"hash ann :{HASH[1:]}\n", 1, HASH_DIGIT),
+    bad("a hash with signs beyond ASCII", f"hash ann {'é' * 32}\n", 1, HASH_DIGIT),
+    bad("a hash and another word", f"hash ann {HASH} x\n", 1, EXTRA),
+    bad("a hash with a label", f"hash ann sha256:{HASH}\n", 1, HASH_LENGTH),
+    bad("a hash of a name with a capital", f"hash Ann {HASH}\n", 1, NAME),
+    bad("a hash of a long name", f"hash {'a' * 33} {HASH}\n", 1, LONG_NAME),
+    bad("two spaces before a hash", f"hash ann  {HASH}\n", 1, SPACE),
+    bad("a tab before a hash", f"hash ann\t{HASH}\n", 1, TAB),
+    bad("a hash behind a token", f"author ann t1\nhash ann {HASH}\n", 2, NAME_TWICE),
+    bad("a token behind a hash", f"hash ann {HASH}\nauthor ann t1\n", 2, NAME_TWICE),
+    bad("two hashes of one name", f"hash ann {HASH}\nhash ann {OTHER_HASH}\n", 2, NAME_TWICE),
+    bad("a CR behind a hash", f"hash ann {HASH}\r", 1, HASH_LENGTH),
+    bad("Hash with a capital", f"Hash ann {HASH}\n", 1, WORD),
+]
+
+PERSONS = [
+    session("display names", TWO + PEOPLE, HELLO + people("ann", "zoe", "bob", "ann@1"), ANN + told(("ann", "Ann Example"), ("bob", "Bób of the Fen ✎"))),
+    session("a person cannot log in by a name alone", TWO + PEOPLE, hello("cyd", "cyd") + people("cyd"), BAD_TOKEN + NO_SESSION),
+    session("display names before a log-in", TWO + PEOPLE, people("ann"), NO_SESSION),
+    session("display names for a peer", TWO + PEOPLE, peer(2, "p2") + people("ann"), '{"ok":true,"replica":1}\n' + NO_SESSION),
+    session("no display names", TWO, HELLO + people("ann"), ANN + told()),
+    session("a display name of 60 characters", f"author ann t1\nperson ann - {'✎' * 60}\n", HELLO + people("ann"), ANN + told(("ann", "✎" * 60))),
+    session("signs that JSON escapes", 'author ann t1\nperson ann - "\\/\n', HELLO + people("ann"), ANN + told(("ann", '"\\/'))),
+    session("an ID of 255 bytes", f"author ann t1\nperson ann {'~' * 255} A\n", HELLO, ANN),
+    session("two persons without an ID", "author ann t1\nperson ann - A\nperson bob - A\n", HELLO, ANN),
+    session("a hundred authors", "author ann t1\nperson ann - A\n", HELLO + people(*["ann"] * 100), ANN + told(*[("ann", "A")] * 100)),
+    session("a hundred and one authors", "author ann t1\n", HELLO + people(*["ann"] * 101), ANN + '{"code":102,"error":"NotRequest","ok":false}\n'),
+    bad("no name of a person", "person\n", 1, NO_PERSON),
+    bad("no ID", "person ann\n", 1, NO_ID),
+    bad("no display name", "person ann -\n", 1, NO_DISPLAY),
+    bad("no ID, but a display name", "person ann Ann\n", 1, NO_DISPLAY),
+    bad("a person's name with a capital", "person Ann - Ann\n", 1, NAME),
+    bad("a person's name beyond ASCII", "person zoé - Zoé\n", 1, NAME),
+    bad("a person's name of 33 characters", f"person {'a' * 33} - Ann\n", 1, LONG_NAME),
+    bad("an ID beyond ASCII", "person ann é Ann\n", 1, ID_BYTE),
+    bad("an ID with a DEL", "person ann \x7f Ann\n", 1, ID_BYTE),
+    bad("an ID of 256 bytes", f"person ann {'~' * 256} Ann\n", 1, LONG_ID),
+    bad("a display name of 61 characters", f"person ann - {'✎' * 61}\n", 1, LONG_DISPLAY),
+    bad("a display name of 61 characters with spaces", f"person ann - {'ab ' * 20}a\n", 1, LONG_DISPLAY),
+    bad("a display name that is no text", b"person ann - Ann \xff\n", 1, DISPLAY_BYTES),
+    bad("a display name that ends within a character", b"person ann - Ann \xc3\n", 1, DISPLAY_BYTES),
+    bad("a display name with half a pair", b"person ann - \xed\xa0\x80\n", 1, DISPLAY_BYTES),
+    bad("a display name with an escape", "person ann - \x1b[31mAnn\n", 1, DISPLAY_CONTROL),
+    bad("a display name with a NUL", "person ann - A\0nn\n", 1, DISPLAY_CONTROL),
+    bad("a display name with a DEL", "person ann - Ann\x7f\n", 1, DISPLAY_CONTROL),
+    bad("a display name with a next-line sign", "person ann - Ann\x85\n", 1, DISPLAY_CONTROL),
+    bad("a display name with a CR", "person ann - Ann\rExample\n", 1, DISPLAY_CONTROL),
+    bad("a display name with a tab", "person ann - Ann\tExample\n", 1, TAB),
+    bad("a display name with two spaces", "person ann - Ann  Example\n", 1, SPACE),
+    bad("a display name with a space at the end", "person ann - Ann \n", 1, SPACE),
+    bad("a display name of one space", "person ann -  \n", 1, SPACE),
+    bad("two spaces before an ID", "person ann  - Ann\n", 1, SPACE),
+    bad("one person twice", PEOPLE + "person ann - Anne\n", 4, PERSON_TWICE),
+    bad("one ID twice", PEOPLE + "person dan cyd Dan\n", 4, ID_TWICE),
+    bad("one person twice, with an ID that another has", PEOPLE + "person ann cyd Ann\n", 4, PERSON_TWICE),
+    bad("a person's bad name, ID and display name", f"person Ann é {'x' * 61}\n", 1, NAME),
+    bad("a person's bad ID and display name", f"person ann é {'x' * 61}\n", 1, ID_BYTE),
+    bad("a long display name with a control character", f"person ann - {'x' * 61}\x7f\n", 1, DISPLAY_CONTROL),
+    bad("people for person", "people ann - Ann\n", 1, WORD),
+    bad("Person with a capital", "Person ann - Ann\n", 1, WORD),
+]
+
+
+def a_hundred_thousand_persons():
+    """They are read in seconds, found at once, and one more is a mistake."""
+    text = "author ann t1\n" + "".join(f"person p{n} {n}@example.org Person {n}\n" for n in range(100_000))
+    asked, answered = HELLO + people("p0", "p99999"), ANN + told(("p0", "Person 0"), ("p99999", "Person 99999"))
+    play(Case("a hundred thousand persons", ARGS, asked, answered, files=(("accounts", text),)))
+    message = f"pad_server: 500 BadAccounts line 100002\npad_server: the accounts file accounts: {MANY_PEOPLE}\n"
+    play(Case("one more", ARGS, HELLO, "", 2, message, (("accounts", text + "person ann - Ann\n"),)))
 
 
 THOUSAND = "".join(f"author a{number} t\n" for number in range(999)) + "peer 2 p h:1\n"
@@ -255,7 +376,8 @@ CASES = [
 ]
 
 TESTS = [
-    *[case.test() for case in CASES],
+    *[case.test() for case in CASES + HASHES + PERSONS],
+    Test("accounts: a hundred thousand persons", a_hundred_thousand_persons, 240),
     Test("accounts: a warning begins with the time", a_warning_begins_with_the_time),
     Test("accounts: they change while the server runs", accounts_change_while_the_server_runs, 90),
 ]

@@ -6,7 +6,7 @@ import subprocess
 from harness import ROOT, Test, put_files, want
 
 SCRIPTS = [".ci/run", ".ci/long", ".ci/edits"]
-UNPROVED = ["pad_part_tests", "sequence_tests", "server_tests", "relay_tests", "thread_tests", "client_tests"]
+UNPROVED = ["pad_part_tests", "sequence_tests", "server_tests", "relay_tests", "thread_tests", "client_tests", "standby_tests"]
 
 # In place of the toolchain: notes which crates and edits it finds, leaves a program, and says what the file SAYS holds.
 RT = """#!/bin/bash

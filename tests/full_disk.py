@@ -26,7 +26,7 @@ def waits_for_room(client, request):
 
 def shown(client):
     """What a pad shows to an author who has joined it."""
-    acts = [client.does(do=act, pad="p") for act in ("text", "runs", "comments", "revs", "rights", "who")]
+    acts = [client.does(do=act, pad="p") for act in ("text", "runs", "comments", "revs", "rights", "marks", "who")]
     return acts, entries_of(client)
 
 
@@ -50,6 +50,7 @@ def refuses_what_is_kept(ann, bob, cid, made):
         (ann, {"do": "comment", "pad": "p", "rev": made, "at": 0, "len": 1, "text": "why?"}),
         (ann, {"do": "resolve", "pad": "p", "comment": [1, 1]}),
         (ann, {"do": "grant", "pad": "p", "author": "eve", "right": "read"}),
+        (ann, {"do": "mark", "pad": "p", "rev": 0, "text": "Draft"}),
         (cid, {"do": "join", "pad": "p"}),
         (bob, {"do": "create", "pad": "q"}),
     ]:

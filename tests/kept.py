@@ -1,4 +1,5 @@
-"""What a server says at `/kept` of its web address: on how many machines an edit is kept once it is answered."""
+"""What a server says of itself at its web address: at `/kept` on how many machines an edit is kept once it is answered, and at
+`/earlier-numbers` which numbers it had before."""
 import http.client
 
 from harness import Test, want
@@ -18,10 +19,10 @@ def body_of(number):
     return b'{"machines":%d}' % number
 
 
-def told(port):
+def told(port, path="/kept"):
     """What a server answers at this port."""
     connection = http.client.HTTPConnection("127.0.0.1", port, timeout=WAIT)
-    connection.request("GET", "/kept")
+    connection.request("GET", path)
     response = connection.getresponse()
     return response.status, response.read()
 
@@ -81,9 +82,33 @@ def a_promoted_standby():
     want(told(other), (200, body_of(1)), "what the promoted server says")
 
 
+def earlier_numbers():
+    machines, webs = Machines(), free_ports(3)
+    machines.standby()
+    machines.main("strict", f"--web 127.0.0.1:{webs[0]}")
+    ann = machines.author("ann")
+    ann.does(do="create", pad="p")
+    want(told(webs[0], "/earlier-numbers"), (200, b'{"numbers":[]}'), "what a server says that has its first number")
+    machines.kill(1)
+    machines.kill(2)
+    machines.promoted(f"--web 127.0.0.1:{webs[1]}")
+    want(told(webs[1], "/earlier-numbers"), (200, b'{"numbers":[1]}'), "what the promoted server says")
+    machines.kill(2)
+    # Its files say so too when it starts with the number that it has now.
+    machines.run(2, "copy", f"--web 127.0.0.1:{webs[2]}")
+    want(told(webs[2], "/earlier-numbers"), (200, b'{"numbers":[1]}'), "what it says after a restart")
+
+
+def no_earlier_number_without_a_store():
+    response = WebServer().get("/earlier-numbers")
+    want((response.status, response.body), (200, b'{"numbers":[]}'), "what is told")
+    want(response.fields.get("cache-control"), "no-store", "what a browser may do with a copy")
+
+
 FUNCTIONS = [
     a_server_without_a_store, a_server_with_a_store,
     a_standby_that_confirms, a_standby_for_which_no_reply_waits, a_promoted_standby,
+    earlier_numbers, no_earlier_number_without_a_store,
 ]
 
 TESTS = [Test(f"pad_server: kept: {function.__name__.replace('_', ' ')}", function, 60) for function in FUNCTIONS]

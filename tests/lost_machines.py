@@ -28,16 +28,17 @@ def lose_the_machine(seed, confirm, seconds):
     answered = check_answered(machines, writers)
     machines.kill(2)
     shutil.rmtree("copy")
-    return answered
+    return answered, sum(writer.taken for writer in writers)
 
 
 def the_machine_is_lost(rounds):
     dice = random.Random(2026)
-    answered = 0
+    answered, taken = 0, 0
     for round_number in range(rounds):
-        answered += lose_the_machine(round_number, "strict", dice.uniform(0.3, 2.5))
-    if answered < 50 * rounds:
-        raise Failed(f"only {answered} answers came before the losses")
+        counts = lose_the_machine(round_number, "strict", dice.uniform(0.3, 2.5))
+        answered, taken = answered + counts[0], taken + counts[1]
+    if answered < 50 * rounds or taken == 0:
+        raise Failed(f"only {answered} answers came before the losses, and {taken} to rights that were taken away")
 
 
 def the_machine_is_lost_under_load():

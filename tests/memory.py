@@ -109,7 +109,7 @@ class Reader:
         self.author.join("p")
 
     def __call__(self):
-        shown = [self.author.does(do=act, pad="p") for act in ("text", "runs", "comments", "revs", "rights", "who")]
+        shown = [self.author.does(do=act, pad="p") for act in ("text", "runs", "comments", "revs", "rights", "marks", "who")]
         made = self.author.does(do="entries", pad="p", count=100, **{"from": max(1, shown[0]["now"] - 50)})
         return shown, made, self.peer.does(do="vector", pad="p")
 
@@ -209,11 +209,14 @@ def receive(story):
 
 
 def read_all(story):
-    for act in ("text", "runs", "comments", "revs", "rights", "who"):
+    for act in ("text", "runs", "comments", "revs", "rights", "marks", "who"):
         story.on_pad("ann", act)
     for act in ("text", "runs", "comments"):
         story.on_pad("ann", act, rev=3)
     story.on_pad("ann", "entries", count=10, **{"from": 1})
+    story.on_pad("ann", "entries", count=10, times=True, **{"from": 1})
+    story.on_pad("ann", "times", step=1, count=10, **{"from": 1})
+    story.on_pad("ann", "birth", rev=3, at=0)
     story.on_pad("two", "vector")
     story.on_pad("two", "pull", seen=[], max=4)
 
@@ -226,6 +229,9 @@ def allocations_of_each_request_are_refused():
     want(story.on_pad("ann", "text"), {"now": story.now, "ok": True, "rev": story.now, "text": story.text}, "the text")
     story.edits("ann", "comment", lambda text: text, at=2, len=3, text="why?")
     story.edits("bob", "resolve", lambda text: text, comment=[1, story.now])
+    story.on_pad("bob", "mark", rev=1, text="A first draft")
+    named = story.on_pad("ann", "marks")["marks"]
+    want([(one["author"], one["rev"], one["text"]) for one in named], [("bob", 1, "A first draft")], "the names of revisions")
     story.on_pad("bob", "caret", rev=story.now, at=3)
     receive(story)
     read_all(story)

@@ -1,5 +1,6 @@
 """The tool for the accounts file: what it adds, removes and prints, and what it refuses. account_files.py has what it does with
 files."""
+import hashlib
 import json
 import os
 import re
@@ -7,14 +8,16 @@ import socket
 import subprocess
 import time
 
-from accounts import ADDRESS, COLON, DIGITS, EXTRA, LARGE, LONG_NAME, LONG_TOKEN, MANY, NAME, NAME_TWICE, NO_ADDRESS, NO_NAME, NO_NUMBER, NO_TOKEN, NUMBER_TWICE, SPACE, TAB, TOKEN, WORD, ZERO
+from accounts import ADDRESS, COLON, DIGITS, DISPLAY_BYTES, DISPLAY_CONTROL, EXTRA, HASH, HASH_DIGIT, HASH_LENGTH, ID_BYTE, ID_TWICE, LARGE, LONG_DISPLAY, LONG_ID, LONG_NAME, LONG_TOKEN
+from accounts import MANY, NAME, NAME_TWICE, NO_ADDRESS, NO_DISPLAY, NO_HASH, NO_HASH_NAME, NO_ID, NO_NAME, NO_NUMBER, NO_PERSON, NO_TOKEN, NUMBER_TWICE, PERSON_TWICE, SPACE, TAB, TOKEN, WORD, ZERO
 from harness import CLOSED, FULL, Case, Failed, Has, Starts, Test, put_files, start, want
 
-USAGE = """Usage: pad_accounts <FILE> add <NAME>.. [--at <URL>] [--pad <PAD>]
-       pad_accounts <FILE> add --from <LIST> [--at <URL>] [--pad <PAD>]
+USAGE = """Usage: pad_accounts <FILE> add <NAME>.. [--hash] [--at <URL>] [--pad <PAD>]
+       pad_accounts <FILE> add --from <LIST> [--hash] [--at <URL>] [--pad <PAD>]
        pad_accounts <FILE> remove <NAME>
        pad_accounts <FILE> list
        pad_accounts <FILE> link <NAME> [--at <URL>] [--pad <PAD>]
+       pad_accounts <FILE> person <NAME> <ID> <DISPLAY NAME>..
 """
 HERE = "http://127.0.0.1:8080"
 LINK = re.compile(r"(\S+)/#in=([a-z0-9-]+)\.([0-9a-hjkmnp-tv-z]{24})(&pad=\S+)?")
@@ -154,6 +157,51 @@ def list_and_links():
     want(read("accounts").startswith(OLD), True, "that the file begins as before")
 
 
+def hashes():
+    """With --hash the file has the hash of the token that is printed once, which logs in, and nothing in the file does."""
+    put_files([("accounts", OLD)])
+    made = links_in(does("accounts add --hash cyd dan --at https://pads.example --pad p"), "https://pads.example", "&pad=p")
+    lines = [f"hash {name} {hashlib.sha256(token.encode()).hexdigest()}\n" for name, token in made]
+    want(read("accounts"), OLD + "".join(lines).encode(), "the file with two hashes")
+    want(does("accounts list"), "author ann\npeer 2\nauthor ann-b\nauthor bob\nhash cyd\nhash dan\n", "the list")
+    server = Served()
+    want(server.answers(*made[0])["ok"], True, "whether cyd's token logs in")
+    want(server.answers("cyd", lines[0].split()[2]).get("error"), "BadToken", "whether cyd's hash logs in")
+    want(server.answers(made[1][0], made[0][1]).get("error"), "BadToken", "whether cyd's token logs dan in")
+    does("accounts remove cyd")
+    want(read("accounts"), OLD + lines[1].encode(), "the file without cyd")
+    server.comes_to(*made[0], "error", "BadToken")
+    [(_, token)] = links_in(does("accounts add --from - --hash", "eve\n"))
+    server.comes_to("eve", token, "author", "eve@1")
+
+
+def persons():
+    """A person's line comes, and in place of an earlier one; remove takes it with the others of the name."""
+    put_files([("accounts", OLD)])
+    does(["accounts", "person", "ann", "ann@example.org", "Ann Example"])
+    does(["accounts", "person", "zoe", "-", "Zoë", "of the", "Fen ✎"])
+    ann, zoe = "person ann ann@example.org Ann Example\n".encode(), "person zoe - Zoë of the Fen ✎\n".encode()
+    want(read("accounts"), OLD + ann + zoe, "the file with two persons")
+    want(does("accounts list"), "author ann\npeer 2\nauthor ann-b\nauthor bob\n" + (ann + zoe).decode(), "the list")
+    does(["accounts", "person", "ann", "-", "Anne"])
+    want(read("accounts"), OLD + zoe + b"person ann - Anne\n", "the file with another line for ann")
+    server = Served()
+    with socket.create_connection(("127.0.0.1", server.port), timeout=15) as client:
+        client.sendall(b'{"do":"hello","name":"ann","token":"k7Qw0bT3vJx2"}\n{"do":"people","authors":["zoe","ann","bob"]}\n')
+        replies = client.makefile("r")
+        replies.readline()
+        people = json.loads(replies.readline())["people"]
+    want(people, [{"author": "zoe", "name": "Zoë of the Fen ✎"}, {"author": "ann", "name": "Anne"}], "the display names")
+    does("accounts remove ann")
+    does("accounts remove zoe")
+    want(read("accounts"), OLD.replace(b"author ann k7Qw0bT3vJx2\r\n", b""), "the file without ann and zoe")
+    put_files([("accounts", "author ann t1")])
+    does("accounts person ann - Ann")
+    want(read("accounts").decode(), "author ann t1\nperson ann - Ann\n", "a file whose last line had no line feed")
+    does("new person ann - Ann")
+    want(read("new").decode(), "person ann - Ann\n", "a file that was not there")
+
+
 def tokens_differ():
     """Each of 950 tokens is another, and the characters are spread over all places."""
     tokens = []
@@ -191,8 +239,8 @@ TESTS = [
     program("version", "--version", stdout="pad_accounts 0.1.0\n", files=()).test(),
     refused("no words", "", Starts("pad_accounts: ", "required", "<FILE>", "<COMMAND>", USAGE)),
     refused("no command", "accounts", Starts("pad_accounts: ", "required", "<COMMAND>")),
-    refused("an unknown command", "accounts make", "the command is add, remove, list or link"),
-    refused("a command in capitals", "accounts Add ann", "the command is add, remove, list or link"),
+    refused("an unknown command", "accounts make", "the command is add, remove, list, link or person"),
+    refused("a command in capitals", "accounts Add ann", "the command is add, remove, list, link or person"),
     refused("an unknown option", "accounts list --tokens", Starts("pad_accounts: ", "--tokens")),
     refused("--from twice", "accounts add --from a --from b", Starts("pad_accounts: ", "--from")),
     refused("--from without a path", "accounts add --from", Starts("pad_accounts: ", "--from")),
@@ -224,6 +272,39 @@ TESTS = [
     refused("a name twice", "accounts add cyd dan cyd", 'nothing is written: "cyd" is named twice'),
     refused("a name that is there", "accounts add cyd ann-b", 'nothing is written: "ann-b" is in the accounts file already'),
     refused("a name that is there, and a wrong one behind it", "accounts add bob Cyd", 'nothing is written: "bob" is in the accounts file already'),
+    *[refused(f"person with {words}", ["accounts", "person", *words], "person takes a name, an ID, or - for none, and a display name") for words in [[], ["ann"], ["ann", "-"], ["ann", "Ann Example"]]],
+    *[refused(f"{command} --hash", f"accounts {command} --hash", "--hash is for add") for command in ["remove ann", "list", "link ann", "person ann - Ann"]],
+    refused("person --from", "accounts person ann - Ann --from list", "--from <LIST> is for add"),
+    refused("person --at", "accounts person ann - Ann --at https://p", "--at <URL> is for add and link"),
+    refused("person --pad", "accounts person ann - Ann --pad p", "--pad <PAD> is for add and link"),
+    refused("--hash twice", "accounts add cyd --hash --hash", Starts("pad_accounts: ", "--hash")),
+    refused("--hash with a value", "accounts add cyd --hash=yes", Starts("pad_accounts: ", "--hash")),
+    *[
+        refused(f"a person {words}", ["accounts", "person", *words], "nothing is written: " + reason, (("accounts", OLD + b"person bob b Bob\n"),))
+        for words, reason in [
+            (["Ann", "-", "Ann"], NAME),
+            (["", "-", "Ann"], SPACE),
+            (["x" * 33, "-", "Ann"], LONG_NAME),
+            (["ann", "é", "Ann"], ID_BYTE),
+            (["ann", "", "Ann"], SPACE),
+            (["ann", "~" * 256, "Ann"], LONG_ID),
+            (["ann", "b", "Ann"], ID_TWICE),
+            (["ann", "-", ""], SPACE),
+            (["ann", "-", "Ann "], SPACE),
+            (["ann", "-", "Ann  Example"], SPACE),
+            (["ann", "-", "Ann", "", "Example"], SPACE),
+            (["ann", "-", "x" * 61], LONG_DISPLAY),
+            (["ann", "-", "Ann\tExample"], TAB),
+            (["ann", "-", "Ann\x7f"], DISPLAY_CONTROL),
+            (["ann", "-", "Ann\nx"], WORD),
+            (["ann", "-", "Ann\r"], "a display name is one line of text"),
+            (["ann", "-", "Ann\nauthor eve t"], "a display name is one line of text"),
+        ]
+    ],
+    refused("the link of a hash", "accounts link ann", f"the token of ann is not known: accounts has only its hash; remove and add the author for a new link", (("accounts", f"hash ann {HASH}\n"),)),
+    refused("the link of a person", "accounts link ann", 'the accounts file accounts has no author "ann"', (("accounts", "person ann - Ann\n"),)),
+    refused("a name that has a hash", "accounts add ann", 'nothing is written: "ann" is in the accounts file already', (("accounts", f"hash ann {HASH}\n"),)),
+    refused("a name that has a hash, with --hash", "accounts add --hash ann", 'nothing is written: "ann" is in the accounts file already', (("accounts", "author ann t\n"),)),
     wrong_list("a wrong name", "cyd\n\n# x\nZoe\ndan\n", f'nothing is written: line 4 of the list: "Zoe" {NOT_A_NAME}'),
     wrong_list("a space behind a name", "cyd \n", f'nothing is written: line 1 of the list: "cyd " {NOT_A_NAME}'),
     wrong_list("no text", b"cyd\n\xff\n", f"nothing is written: line 2 of the list: what is no text {NOT_A_NAME}"),
@@ -260,6 +341,20 @@ TESTS = [
             ("author ann t\tx\n", 1, TAB),
             ("author  ann t\n", 1, SPACE),
             ("admin ann t\n", 1, WORD),
+            ("hash\n", 1, NO_HASH_NAME),
+            ("hash ann\n", 1, NO_HASH),
+            ("hash ann t\n", 1, HASH_LENGTH),
+            (f"hash ann {'G' * 64}\n", 1, HASH_DIGIT),
+            ("person\n", 1, NO_PERSON),
+            ("person ann\n", 1, NO_ID),
+            ("person ann -\n", 1, NO_DISPLAY),
+            ("person ann é A\n", 1, ID_BYTE),
+            (f"person ann {'~' * 256} A\n", 1, LONG_ID),
+            (b"person ann - \xff\n", 1, DISPLAY_BYTES),
+            ("person ann - \x7f\n", 1, DISPLAY_CONTROL),
+            (f"person ann - {'x' * 61}\n", 1, LONG_DISPLAY),
+            ("person ann - A\nperson ann - B\n", 2, PERSON_TWICE),
+            ("person ann a A\nperson bob a B\n", 2, ID_TWICE),
             ("author ann t\nauthor ann u\n", 2, NAME_TWICE),
             ("peer 2 t h:1\n\npeer 2 u h:1\n", 3, NUMBER_TWICE),
             (FULL_FILE + "peer 2 p h:1\nauthor x t\n", 1001, MANY),
@@ -272,6 +367,8 @@ TESTS = [
     Test("pad_accounts: a class of 30 logs in", a_class_logs_in, 90),
     Test("pad_accounts: other lines stay byte for byte", other_lines_stay),
     Test("pad_accounts: the list, and links", list_and_links),
+    Test("pad_accounts: hashes in place of tokens", hashes, 60),
+    Test("pad_accounts: persons", persons, 60),
     Test("pad_accounts: tokens differ", tokens_differ, 60),
     Test("pad_accounts: a list on standard input", from_standard_input),
 ]

@@ -40,12 +40,18 @@ OTHERS = [
     {"at": AT + 70, "author": "cyd", "kind": "granted", "right": "read"},
     {"at": AT + 71, "kind": "visited"},
     {"at": AT + 72, "author": "bob", "kind": "granted", "right": "none"},
+    {"at": AT + 73, "kind": "everyone", "right": "read"},
+    {"at": AT + 74, "kind": "handed", "owner": "cyd"},
+    {"at": AT + 75, "author": "bob", "kind": "marked", "ms": 7, "rev": 2, "text": 'Agreed on\n"ho"'},
     {"format": 1, "pad": "p", "replica": 7},
 ]
 OTHER_LINES = [
     f"- {time_of(AT + 70)} - right cyd read\n",
     f"- {time_of(AT + 71)} - visit\n",
     f"- {time_of(AT + 72)} - right bob none\n",
+    f"- {time_of(AT + 73)} - right * read\n",
+    f"- {time_of(AT + 74)} - owner cyd\n",
+    f'- {time_of(AT + 75)} bob mark 2 "Agreed on\\n\\"ho\\""\n',
     "- - - server 7\n",
 ]
 AGAIN = [{"at": AT + 5, "kind": "named", "name": "p", "owner": "bob"}, {"at": AT + 6, "kind": "visited"}]
@@ -62,8 +68,8 @@ CASES = [
         "p lines=1 torn=0\n" + LOG[-1] + counted(beyond=1, lines=1),
     ),
     files(
-        "beyond: rights, a visit and another number", file_of([*SHARED, *OTHERS]), NEW,
-        "p lines=4 torn=0\n" + "".join(OTHER_LINES) + counted(beyond=1, lines=4),
+        "beyond: rights, a visit, another owner, a name of a revision and another number", file_of([*SHARED, *OTHERS]), NEW,
+        "p lines=7 torn=0\n" + "".join(OTHER_LINES) + counted(beyond=1, lines=7),
     ),
     files(
         "beyond: only the first line in common", WHOLE, file_of([VALUES[0], *AGAIN]),
@@ -89,7 +95,7 @@ CASES = [
     misused("beyond: three words", "beyond p.pad p.pad 3", "only diff takes two more words"),
     misused("beyond: --rev", "beyond p.pad p.pad --rev 1", "--rev <N> is for show and export\n"),
     misused("beyond: no such file", "beyond q.pad p.pad", "q.pad: No such file or directory", status=1),
-    misused("diff of no revision", "diff p.pad x 3", "diff needs two revisions\n"),
+    misused("diff of no revision", "diff p.pad x 3", "diff needs two revisions: numbers, or moments"),
 ]
 
 

@@ -5,16 +5,17 @@ import json
 import os
 import shutil
 import subprocess
+import time
 
 from harness import FULL, UNREAD, Case, Has, Starts, Test, put_files, start, want
 from stores import STORE, kill
 from sockets import Server
 
 USAGE = """Usage: pad_store check <DIR|FILE>
-       pad_store show <FILE> [--rev <N>] [--authors] [--comments] [--markdown]
-       pad_store log <FILE> [--from <N>]
-       pad_store diff <FILE> <REV> <REV>
-       pad_store export <FILE> [--rev <N>] [--sum <SUM>]
+       pad_store show <FILE> [--rev <N>|--at <MOMENT>] [--authors] [--comments] [--markdown]
+       pad_store log <FILE> [--from <N>] [--by <AUTHOR>] [--since <MOMENT>] [--until <MOMENT>]
+       pad_store diff <FILE> <REV|MOMENT> <REV|MOMENT>
+       pad_store export <FILE> [--rev <N>|--at <MOMENT>] [--sum <SUM>]
        pad_store beyond <OLD> <NEW>
 """
 
@@ -95,10 +96,50 @@ EDITS = [
     ]),
 ]
 EDITED = b"".join(lines_of([*VALUES[: FIRST + 1], *EDITS])[0])
+# The pad is handed over, and whoever created it may no longer read it.
+HANDED = [
+    {"at": AT + 86402, "kind": "handed", "owner": "bob"},
+    {"at": AT + 86403, "author": "ann", "kind": "granted", "right": "none"},
+]
+HANDED_LINES, HANDED_SUMS = lines_of([*VALUES, *HANDED])
 TEXTS = ["", "hello", "ho", "heyo", "heyo", "heyo"]
 COMMENT = '[1,4] ann@1 on "he": "nice"'
 MARKDOWN = "# p\n\nRevision 5\n\n"
 RUNS = ['ann@1 "h"\n', 'bob@1 "ey"\n', 'ann@1 "o"\n']
+
+# Moments as they are given, each with the last revision that was made not later. The operations were made at 22:00:01,
+# 22:01:02 and 23:02:03 UTC on 23 November 2026, and at 22:00:00 and 22:00:01 on the next day.
+MOMENTS = [
+    ("1970-01-01", 0),
+    ("2026-11-23", 0),
+    ("2026-11-23T22:00:00.999Z", 0),
+    ("2026-11-23T22:00:01Z", 1),
+    ("'2026-11-23 22:01'", 1),
+    ("2026-11-23t22:01:01.999", 1),
+    ("2026-11-23T22:01:02", 2),
+    ("2026-11-24T00:02:02+01:00", 2),
+    ("2026-11-24T00:02:03+01:00", 3),
+    ("'2026-11-23 17:32:02.5-05:30'", 2),
+    ("'2026-11-23 17:32:03-05:30'", 3),
+    ("2026-11-24", 3),
+    ("20261124", 3),
+    ("'2026-11-24 22:00'", 4),
+    ("'2026-11-24 22:00:01z'", 5),
+    ("9999-12-30", 5),
+]
+NO_MOMENTS = [
+    "''", "yesterday", "20:00", "2026-11", "2026-13-01", "2026-02-29", "'2026-11-24 24:00'", "'2026-11-24 20:00 UTC'",
+    "'2026-11-24 20:00[Europe/Berlin]'", "2026-11-24T20:00+01:00[Europe/Berlin]", "2026-11-24[UTC]", "2026-11-24T20:00+26:00",
+    "1969-12-31", "1969-12-31T23:59:59.999Z", "1970-01-01T00:00+00:01", "10000-01-01", "9999-12-31T23:59Z",
+    "1795471201",
+]
+# The first operation half a second later, and the second one at an earlier time, as of a clock that went back.
+HALF = b"".join(lines_of([*VALUES[:FIRST], {**OPERATIONS[0], "ms": 500}, *OPERATIONS[1:]])[0])
+BACK = b"".join(lines_of([*VALUES[: FIRST + 1], {**OPERATIONS[1], "at": AT - 60}])[0])
+
+# Bob names revision 3 at 22:01:40 on the second day.
+NAMED = b"".join(lines_of([*VALUES, {"at": AT + 86500, "author": "bob", "kind": "marked", "ms": 7, "rev": 3, "text": "First\ndraft"}])[0])
+NAME = f'- {time_of(AT + 86500)} bob mark 3 "First\\ndraft"\n'
 
 # A file as its bytes say it is damaged, and the line that is named.
 DAMAGED = [
@@ -125,24 +166,61 @@ def again(values):
 
 
 CASES = [
-    program("help", "--help", stdout=Has(USAGE, "--rev <N>", "--sum <SUM>"), files=()),
+    program(
+        "help", "--help", files=(),
+        stdout=Has(USAGE, "--rev <N>", "--at <MOMENT>", "--by <AUTHOR>", "--since <MOMENT>", "--until <MOMENT>", "--sum <SUM>", "'2026-12-09 20:00'"),
+    ),
     program("version", "--version", stdout="pad_store 0.1.0\n", files=()),
     refused("no words", "", "required"),
     refused("no path", "check", "required"),
     refused("another command", "repair p.pad", "the command is check, show, log, diff, export or beyond\n"),
     refused("--rev with log", "log p.pad --rev 1", "--rev <N> is for show and export\n"),
     refused("--from with show", "show p.pad --from 1", "--from <N> is for log\n"),
-    refused("--sum with show", "show p.pad --sum a", "--sum <SUM> is for export, without --rev <N>\n"),
-    refused("--sum with --rev", "export p.pad --sum a --rev 1", "--sum <SUM> is for export, without --rev <N>\n"),
+    *(
+        refused(f"--at with {command}", f"{command} --at 2026-11-24", "--at <MOMENT> is for show and export\n")
+        for command in ["check p.pad", "log p.pad", "diff p.pad 1 2", "beyond p.pad p.pad"]
+    ),
+    *(
+        refused(f"--at and --rev with {command}", f"{command} p.pad --at 2026-11-24 --rev 1", "--rev <N> and --at <MOMENT> each name a revision: give only one of them\n")
+        for command in ["show", "export"]
+    ),
+    *(
+        refused(f"{option} with {command}", f"{command} {option}", "--by <AUTHOR>, --since <MOMENT> and --until <MOMENT> are for log\n")
+        for option in ["--by ann", "--since 2026-11-24", "--until 2026-11-24"]
+        for command in ["check p.pad", "show p.pad", "diff p.pad 1 2", "export p.pad", "beyond p.pad p.pad"]
+    ),
+    *(
+        refused(f"{command} {text}, which is no moment", f"{command} {text}", "a moment is a date from 1970 on, as 2026-12-09, '2026-12-09 20:00' or 2026-12-09T20:00:00+01:00\n")
+        for text in NO_MOMENTS
+        for command in ["show p.pad --at", "export p.pad --at", "log p.pad --since", "log p.pad --since 2026-11-24 --until"]
+    ),
+    *(
+        refused(f"--sum with {command}", f"{command} --sum a", "--sum <SUM> is for export, without --rev <N> and --at <MOMENT>\n")
+        for command in ["show p.pad", "export p.pad --rev 1", "export p.pad --at 2026-11-24"]
+    ),
     refused("--authors with log", "log p.pad --authors", "--authors, --comments and --markdown are for show\n"),
     refused("revisions with show", "show p.pad 1", "only diff takes two more words, and only beyond takes one\n"),
-    refused("diff with one revision", "diff p.pad 1", "diff needs two revisions\n"),
-    refused("diff backwards", "diff p.pad 3 1", "diff needs the older revision first\n"),
+    *(
+        refused(f"diff{words}", f"diff p.pad{words}", "diff needs two revisions: numbers, or moments as 2026-12-09 or '2026-12-09 20:00'\n")
+        for words in ["", " 1", " 1 x", " x 1", " 2026-11-24 2026-13-01", " 1 4294967296", " 1 1795471201000"]
+    ),
+    *(
+        refused(f"diff backwards, {words}", f"diff p.pad {words}", "diff needs the older revision first\n")
+        for words in ["3 1", "2026-11-24 2", "2 2026-11-23", "2026-11-24 2026-11-23"]
+    ),
     refused("a revision that is no number", "show p.pad --rev x", "--rev <N>"),
     program("a file that is missing", "show q.pad", status=1, stderr="pad_store: q.pad: No such file or directory (os error 2)\n"),
     program("a folder that is missing", "check kept", status=1, stderr="pad_store: kept: No such file or directory (os error 2)\n"),
     program("a file is checked", "check p.pad", stdout=checked("p", 5, 4, SUMS[-1])),
     program("a file under any name is checked", "check copy", [("copy", WHOLE)], stdout=checked("p", 5, 4, SUMS[-1])),
+    program(
+        "a pad that was handed over", "check p.pad", [("p.pad", b"".join(HANDED_LINES))],
+        stdout=checked("p", 5, 4, HANDED_SUMS[-1]),
+    ),
+    program(
+        "half a hand-over at the end", "check p.pad", [("p.pad", b"".join(HANDED_LINES[:-1])[:-9])],
+        stdout=checked("p", 5, 4, SUMS[-1], len(HANDED_LINES[-2]) - 9),
+    ),
     program("half a line at the end", "check p.pad", [("p.pad", WHOLE + b"[{")], stdout=checked("p", 5, 4, SUMS[-1], 2)),
     program(
         "half of the last line", "check p.pad", [("p.pad", WHOLE[:-30])],
@@ -180,6 +258,20 @@ CASES = [
     program("the present revision", "show p.pad", stdout="heyo"),
     *(program(f"revision {rev}", f"show p.pad --rev {rev}", stdout=text) for rev, text in enumerate(TEXTS)),
     program("a revision that is missing", "show p.pad --rev 6", status=1, stderr="pad_store: p.pad: 320 NoRevision\n"),
+    *(
+        program(f"the revision at {moment}", f"show p.pad --at {moment} --markdown", stdout=f"# p\n\nRevision {rev}\n\n{TEXTS[rev]}\n")
+        for moment, rev in MOMENTS
+    ),
+    program("the text at a moment", "show p.pad --at '2026-11-23 22:01'", stdout="hello"),
+    program("the authors at a moment", "show p.pad --authors --at '2026-11-23 22:01'", stdout='ann@1 "hello"\n'),
+    *(
+        program(f"a part of a second, {moment}", f"show p.pad --at 2026-11-23T22:00:{moment}Z", [("p.pad", HALF)], stdout=text)
+        for moment, text in [("01", ""), ("01.499", ""), ("01.4999", ""), ("01.5", "hello"), ("02", "hello")]
+    ),
+    *(
+        program(f"a clock that went back, {moment}", f"show p.pad --at 2026-11-23T{moment}Z", [("p.pad", BACK)], stdout=text)
+        for moment, text in [("21:59:00", ""), ("22:00:00", ""), ("22:00:01", "ho")]
+    ),
     program("no revision of a damaged file", "show p.pad --rev 1", [("p.pad", DAMAGED[2][1])], status=1, stderr=Has("line 6: ")),
     program("authors", "show p.pad --authors", stdout="".join(RUNS)),
     program("authors of revision 1", "show p.pad --authors --rev 1", stdout='ann@1 "hello"\n'),
@@ -195,6 +287,40 @@ CASES = [
     program("the log", "log p.pad", stdout="".join(LOG)),
     program("the log from revision 4 on", "log p.pad --from 4", stdout="".join(LOG[3:])),
     program("the log from behind the end on", "log p.pad --from 6"),
+    program("the log of bob", "log p.pad --by bob", stdout=LOG[2]),
+    program("the log of ann", "log p.pad --by ann", stdout="".join(LOG[:2] + LOG[3:])),
+    program("the log of nobody", "log p.pad --by an"),
+    *(
+        program(f"the log with {option}", f"log p.pad {option}", stdout="".join(lines))
+        for option, lines in [
+            ("--since 2026-11-23T22:01:02Z", LOG[1:]),
+            ("--since 2026-11-23T22:01:02.001Z", LOG[2:]),
+            ("--since 2026-11-24", LOG[3:]),
+            ("--until 2026-11-23T22:01:02Z", LOG[:2]),
+            ("--until 2026-11-23T22:01:01.999Z", LOG[:1]),
+            ("--until 2026-11-23", []),
+            ("--since '2026-11-23 22:01' --until 2026-11-24", LOG[1:3]),
+            ("--since 2026-11-24 --until 2026-11-23", []),
+            ("--by ann --since '2026-11-23 22:01' --until 2026-11-24", LOG[1:2]),
+            ("--from 4 --by ann --until '2026-11-24 22:00'", LOG[3:4]),
+            ("--from 2 --by bob", LOG[2:3]),
+            ("--from 4 --by bob", []),
+        ]
+    ),
+    *(
+        program(f"the log of a pad with a named revision{options}", f"log p.pad{options}", [("p.pad", NAMED)], stdout="".join(lines))
+        for options, lines in [
+            ("", [*LOG, NAME]),
+            (" --by bob", [LOG[2], NAME]),
+            (" --by ann", LOG[:2] + LOG[3:]),
+            (" --from 5", [LOG[4], NAME]),
+            (" --from 6", []),
+            (" --since 2026-11-24T22:01:40.007Z", [NAME]),
+            (" --since 2026-11-24T22:01:40.008Z", []),
+            (" --until 2026-11-24T22:01:40Z", LOG),
+        ]
+    ),
+    program("the present revision is not the named one", "show p.pad --markdown", [("p.pad", NAMED)], stdout=MARKDOWN + "heyo\n"),
     program(
         "the log of edits", "log p.pad --from 2", [("p.pad", EDITED)],
         stdout=f'2 {time_of(AT + 2)} ann@1 edit -"ell" +"ey"\n3 {time_of(AT + 3)} ann@1 edit +"A\\n" +"\\"ü𝄞"\n',
@@ -203,12 +329,22 @@ CASES = [
     program("what came in several places", "diff p.pad 2 3", [("p.pad", EDITED)], stdout='{+A\n+}heyo{+"ü𝄞+}\n'),
     program("what came and went", "diff p.pad 1 3", stdout="h[-ell-]{+ey+}o\n"),
     program("what came and went from the start", "diff p.pad 0 3", stdout="{+h+}{+ey+}{+o+}\n"),
+    *(
+        program(f"what came and went, {words}", f"diff p.pad {words}", stdout="h[-ell-]{+ey+}o\n")
+        for words in ["2026-11-23T22:00:01Z 2026-11-24", "1 2026-11-24", "'2026-11-23 22:01' 3"]
+    ),
+    program("nothing came or went within a minute", "diff p.pad '2026-11-23 22:00:01' '2026-11-23 22:01'", stdout="hello\n"),
+    program("a date without dashes is a revision", "diff p.pad 1 20261124", status=1, stderr="pad_store: p.pad: 320 NoRevision\n"),
     program("nothing came or went", "diff p.pad 3 5", stdout="heyo\n"),
     program("what went", "diff p.pad 1 2", stdout="h[-ell-]o\n"),
     program("diff to a missing revision", "diff p.pad 1 6", status=1, stderr="pad_store: p.pad: 320 NoRevision\n"),
     program("the operations", "export p.pad", stdout=b"".join(EXPORT)),
     program("the operations up to revision 2", "export p.pad --rev 2", stdout=b"".join(EXPORT[:2])),
     program("no operations", "export p.pad --rev 0"),
+    *(
+        program(f"the operations until {moment}", f"export p.pad --at {moment}", stdout=b"".join(EXPORT[:rev]))
+        for moment, rev in MOMENTS
+    ),
     program("operations up to a missing revision", "export p.pad --rev 6", status=1, stderr="pad_store: p.pad: 320 NoRevision\n"),
     program("the sum of the last line", f"export p.pad --sum {SUMS[-1]}", stdout=f"line {len(SUMS)}\n"),
     program("the sum of the first line", f"export p.pad --sum {SUMS[0]}", stdout="line 1\n"),
@@ -238,10 +374,15 @@ def the_store_of_a_server():
     ann.does(do="create", pad="p")
     ann.does(do="create", pad="q")
     ann.does(do="insert", pad="p", rev=0, at=0, text="one ü 𝄞\n")
+    time.sleep(0.05)
+    between = datetime.datetime.now(datetime.timezone.utc).isoformat(timespec="milliseconds")
+    time.sleep(0.05)
     ann.does(do="insert", pad="p", rev=1, at=4, text="und ")
     ann.does(do="comment", pad="p", rev=2, at=0, len=3, text="warum?")
     text = ann.does(do="text", pad="p")["text"]
     want(ask("show kept/p.pad"), text, "the text in the file of a running server")
+    want(ask(f"show kept/p.pad --at {between}"), "one ü 𝄞\n", "the text before the second edit")
+    want(ask(f"log kept/p.pad --until {between}").count("\n"), 1, "the operations that were made until then")
     shutil.copytree("kept", "backup")
     kill(server)
     server = Server(f"{STORE} --new-replica", number=2)

@@ -2,7 +2,7 @@
 of its own.
 
 An indented line `NAME > REQUEST` is what the session NAME sends, and the line `< REPLY` below it is what it gets. `NAME !`
-ends the session. The indented lines `author ..` and `peer ..` are the accounts file.
+ends the session. The indented lines `author ..`, `peer ..` and `person ..` are the accounts file.
 """
 import re
 
@@ -11,7 +11,7 @@ from harness import ROOT, Case, Failed, Test, play, want
 ASKED = re.compile(r"    ([a-z]+) +> (.*)")
 TOLD = re.compile(r"    +< (.*)")
 ENDED = re.compile(r"    ([a-z]+) +!")
-ACCOUNT = re.compile(r"    ((?:author|peer) .*)")
+ACCOUNT = re.compile(r"    ((?:author|peer|person) .*)")
 
 
 # The section of a page that has a server of its own.

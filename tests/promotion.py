@@ -90,13 +90,14 @@ def promote_under_load(seed):
     machines.kill(2)
     for store in ("main", "copy"):
         shutil.rmtree(store)
-    return answered
+    return answered, sum(writer.taken for writer in writers)
 
 
 def under_load(rounds):
-    answered = sum(promote_under_load(seed) for seed in range(rounds))
-    if answered < 20 * rounds:
-        raise Failed(f"only {answered} answers came before {rounds} promotions")
+    counts = [promote_under_load(seed) for seed in range(rounds)]
+    answered, taken = (sum(column) for column in zip(*counts))
+    if answered < 20 * rounds or taken == 0:
+        raise Failed(f"only {answered} answers came before {rounds} promotions, and {taken} to rights that were taken away")
 
 
 def begun():

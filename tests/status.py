@@ -243,6 +243,25 @@ def what_was_done_is_counted():
     want(shrunk, [], "the counters that shrink")
 
 
+def visits_are_counted():
+    server = Watched("--store pads --web 127.0.0.1:0")
+    ann = server.author("ann")
+    for pad in ("p", "q"):
+        ann.does(do="create", pad=pad)
+    want(server.counts().of("visits"), 2, "the visits of one who made two pads")
+    ann.does(do="grant", pad="p", author="eve", right="read")
+    eve = server.author("eve")
+    eve.does(do="join", pad="p")
+    want(eve.ask(do="join", pad="q").get("code"), 312, "the answer to one without a right")
+    want(server.counts().of("visits"), 3, "the visits of both")
+    ann.does(do="leave", pad="q")
+    want(server.counts().of("visits"), 2, "the visits once one is left")
+    ann.close()
+    wait_for("one visit is left", lambda: server.counts().of("visits") == 1)
+    eve.close()
+    wait_for("no visit is left", lambda: server.counts().of("visits") == 0)
+
+
 def each_sync_is_counted():
     """One author at a time: each edit has a sync of its own."""
     server = Watched("--store pads")
@@ -373,6 +392,7 @@ TESTS = [
     Test("status: wrong requests", wrong_requests),
     Test("status: a slow client holds nobody up", a_slow_client_holds_nobody_up),
     Test("status: what was done is counted", what_was_done_is_counted),
+    Test("status: visits are counted", visits_are_counted),
     Test("status: each sync is counted", each_sync_is_counted),
     Test("status: the pads of a store are counted", the_pads_of_a_store_are_counted),
     Test("status: a standby is watched", the_standby_is_watched, 60),

@@ -1,4 +1,4 @@
-"""Authors who write under load, and whether everything that was answered to them is there after a promotion."""
+"""Authors who write under load and change rights, and whether everything that was answered to them is there after a promotion."""
 import random
 import threading
 
@@ -9,14 +9,19 @@ PADS = 20
 
 
 class Writer(threading.Thread):
-    """An author who writes, comments, creates and grants, and notes each answer, until the server is gone."""
+    """An author who writes, comments, creates, gives rights and takes them away, and notes each answer, until the server is gone."""
 
     def __init__(self, machines, name, seed):
         super().__init__()
         self.name, self.dice = name, random.Random(seed)
         self.client = machines.author(name)
         self.pads = {}
-        self.made, self.granted, self.created = [], {}, []
+        self.made = []
+        # For each pad that was created: the last right of each author, as it was answered.
+        self.rights = {}
+        # A grant that may not have been answered: the pad, the author and the right.
+        self.asked = None
+        self.taken = 0
         self.start()
 
     def run(self):
@@ -51,12 +56,26 @@ class Writer(threading.Thread):
             answer = self.ask(do="comment", pad=pad, rev=length["rev"], at=0, len=1, text=text)
             self.made.append((pad, answer["now"], tuple(answer["name"]), "comment", text))
         else:
-            mine = f"{self.name}-{len(self.created)}"
-            self.ask(do="create", pad=mine)
-            self.created.append(mine)
-            other, right = self.dice.choice([it for it in NAMES if it != self.name]), self.dice.choice(["read", "write", "none"])
-            self.ask(do="grant", pad=mine, author=other, right=right)
-            self.granted[mine] = (other, right)
+            self.share()
+
+    def share(self):
+        """Creates a pad, gives somebody a right on one of those created, and mostly takes one away that was given before."""
+        mine = f"{self.name}-{len(self.rights)}"
+        self.ask(do="create", pad=mine)
+        self.rights[mine] = {}
+        other = self.dice.choice([it for it in NAMES if it != self.name])
+        self.grant(self.dice.choice(list(self.rights)), other, self.dice.choice(["read", "comment", "write", "none"]))
+        given = [(pad, author) for pad, rights in self.rights.items() for author, right in rights.items() if right != "none"]
+        if given and self.dice.random() < 0.7:
+            pad, author = self.dice.choice(given)
+            self.grant(pad, author, "none")
+            self.taken += 1
+
+    def grant(self, pad, author, right):
+        self.asked = (pad, author, right)
+        self.ask(do="grant", pad=pad, author=author, right=right)
+        self.asked = None
+        self.rights[pad][author] = right
 
 
 def begin_pads(machines):
@@ -87,14 +106,22 @@ def check_answered(machines, writers):
             want(found, (name, f"{writer.name}@1", kind), f"revision {now} of {pad}")
             want(text in (texts[pad] if kind == "insert" else comments[pad]), True, f"that {text!r} is in {pad}")
             answered += 1
-        for pad in writer.created:
-            client = machines.author(writer.name, pad, 2)
-            rights = client.does(do="rights", pad=pad)
-            told = dict(rights["rights"])
-            want(told.pop(writer.name), "own", f"the right of {writer.name} on {pad}")
-            if pad in writer.granted:
-                other, right = writer.granted[pad]
-                want(told.get(other, "none"), right, f"the right of {other} on {pad}")
+        for pad in writer.rights:
+            check_rights(machines, writer, pad)
             answered += 1
-            client.close()
     return answered
+
+
+def check_rights(machines, writer, pad):
+    """Each author has the last right on a pad that its owner was answered, or the one that was asked for and not answered."""
+    client = machines.author(writer.name, pad, 2)
+    told = dict(client.does(do="rights", pad=pad)["rights"])
+    client.close()
+    for author in NAMES:
+        due = ["own" if author == writer.name else writer.rights[pad].get(author, "none")]
+        if writer.asked and writer.asked[:2] == (pad, author):
+            due.append(writer.asked[2])
+        right = told.pop(author, "none")
+        if right not in due:
+            raise Failed(f"{author} has the right {right!r} on {pad}, and not {' or '.join(due)}")
+    want(told, {}, f"who else has a right on {pad}")

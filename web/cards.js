@@ -1,5 +1,5 @@
 // The card of a comment with the replies to it, or of a suggestion.
-import { named } from "./authors.js";
+import { hint, named } from "./authors.js";
 import { suggestionIn } from "../clients/js/src/threads.js";
 import { colourOf } from "./colours.js";
 import { element, wordsOf } from "./page.js";
@@ -42,7 +42,7 @@ function deedsOf(thread, deeds, found) {
 }
 
 function replyOf({ author, text, isUnsent }) {
-  const head = element("p", { className: `card-head ${colourOf(author)}` }, element("b", { textContent: named(author) }));
+  const head = element("p", { className: `card-head ${colourOf(author)}` }, element("b", { textContent: named(author), title: hint(author) }));
   if (isUnsent) head.append(element("span", { className: "quiet", textContent: WORDS.notSent }));
   return element("div", { className: "card-reply" }, head, wordsOf("p", "card-words", text));
 }
@@ -52,7 +52,7 @@ export function cardOf(thread, text, { onLit, onGo, ...deeds }) {
   const { id, author, text: words, isResolved, isUnsent, from, to, replies } = thread, had = text.slice(from, to), found = suggestionIn(words);
   const card = element("article", { id, tabIndex: 0, className: `card ${colourOf(author)}` }), say = found ? WORDS.suggestionOn : WORDS.commentOn;
   card.setAttribute("aria-label", say(named(author), shortened(had), isResolved));
-  const head = element("p", { className: "card-head" }, element("b", { textContent: named(author) }));
+  const head = element("p", { className: "card-head" }, element("b", { textContent: named(author), title: hint(author) }));
   const state = isUnsent ? WORDS.notSent : isResolved ? WORDS.resolved : found ? WORDS.suggests : "";
   if (state) head.append(element("span", { className: "quiet", textContent: state }));
   const quote = from < to ? wordsOf("p", "card-quote", shortened(had)) : element("p", { className: "card-quote", textContent: WORDS.erased });

@@ -1,5 +1,5 @@
 // Others' carets over the text, each with a name that fades a while after it was moved.
-import { named } from "./authors.js";
+import { hint, named } from "./authors.js";
 import { colourOf } from "./colours.js";
 
 const NAME_ROOM = 90; // pixels to the right of a caret that its name may need
@@ -21,6 +21,7 @@ export class Carets {
       const place = `translate(${Math.round(left - home.left)}px, ${Math.round(top - home.top)}px)`;
       if (caret.place !== place) { caret.place = place; caret.node.style.transform = place; }
       if (!caret.node.classList.contains(colourOf(person.author))) caret.node.className = `caret ${colourOf(person.author)}`;
+      if (caret.name.textContent !== named(person.author)) Object.assign(caret.name, { textContent: named(person.author), title: hint(person.author) });
       caret.node.classList.toggle("is-flipped", left - home.left > home.width - NAME_ROOM);
       if (caret.height !== height) { caret.height = height; caret.node.style.height = `${height}px`; }
     }
@@ -32,10 +33,9 @@ export class Carets {
     const node = document.createElement("div"), name = document.createElement("span");
     node.className = `caret ${colourOf(author)}`;
     node.dataset.author = author;
-    name.textContent = named(author);
     node.append(name);
     this.layer.append(node);
-    const caret = { node, moves, place: "", height: 0 };
+    const caret = { node, name, moves, place: "", height: 0 };
     this.nodes.set(visit, caret);
     return caret;
   }

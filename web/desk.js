@@ -1,5 +1,5 @@
 // An open pad: its text, who is here, comments, the slider, and what the buttons do.
-import { named } from "./authors.js";
+import { fullName, named } from "./authors.js";
 import { Carets } from "./carets.js";
 import { authorsOf, colourOf, giveColours } from "./colours.js";
 import { Editor } from "./editor.js";
@@ -7,11 +7,10 @@ import { reason } from "./enter.js";
 import { ExportMenu } from "./export_menu.js";
 import { FindBar } from "./find_bar.js";
 import { FormatBar } from "./format_bar.js";
-import { GoOnBox } from "./go_on.js";
 import { letterOf } from "./keys.js";
 import { Legend } from "./legend.js";
 import { Notice } from "./notice.js";
-import { $, element, gather, say } from "./page.js";
+import { $, element, gather, later, say } from "./page.js";
 import { Past } from "./past.js";
 import { Phone } from "./phone.js";
 import { Remarks } from "./remarks.js";
@@ -29,8 +28,8 @@ const FULL = [314, 324, 325, 327, 328], DENIED = 312;
 
 export class Desk {
   // `onClose` is called when the pad is closed, and `onLogOut` when the author logs out though changes are lost.
-  constructor(session, { onClose, onLogOut }) {
-    Object.assign(this, { session, onClose, isOpen: false, isShutOut: false, percent: 0 });
+  constructor(session, { displays, onClose, onLogOut }) {
+    Object.assign(this, { session, displays, onClose, isOpen: false, isShutOut: false, percent: 0 });
     this.place = gather(() => this.placeAll());
     this.legend = new Legend();
     this.told = new Told();
@@ -51,12 +50,16 @@ export class Desk {
     this.remarks = new Remarks(this);
     this.carets = new Carets($("carets"));
     this.past = new Past(session, {
-      onShow: () => { this.showEditable(); this.views.other(); this.remarks.draw(); this.place(); this.list(); this.find.changed(); },
+      displays,
+      onShow: () => { this.who?.hide(); this.loadWho().catch(() => {}); this.showEditable(); this.views.other(); this.remarks.draw(); this.place(); this.list(); this.find.changed(); },
       onRestore: (delta, rev) => this.steps.restore(delta, rev),
     });
-    this.goOn = new GoOnBox(session, { onDone: () => this.open(), onGone: () => this.leave().then(() => this.onClose()) });
+    this.loadGoOn = later(async () => {
+      const { GoOnBox } = await import("./go_on.js");
+      return new GoOnBox(session, { onDone: () => this.open(), onGone: () => this.leave().then(() => this.onClose()) });
+    });
     this.notice = new Notice(session.kept, {
-      onGoOn: () => this.goOn.open(), onClose: () => this.close(true), onLogOut, onForget: () => session.drafts.dropRefused(),
+      onGoOn: () => this.loadGoOn().then((box) => box.open(), () => this.notice.show(WORDS.noServer)), onClose: () => this.close(true), onLogOut, onForget: () => session.drafts.dropRefused(),
     });
     this.rights = new RightsBox(session, (text) => say($("news"), text));
     this.steps = new Steps(this);
@@ -66,10 +69,12 @@ export class Desk {
       onOpen: () => { if (this.views.mode === "minutes") this.views.setMode("text"); },
     });
     this.views = new Views(this);
+    this.who = null;
+    this.loadWho = later(async () => { this.who = new (await import("./who_wrote.js")).WhoWrote(this); });
     this.exports = new ExportMenu(() => (this.isOpen ? this.revision : null), () => this.views.ready().then(() => $("minutes")));
     this.acts = {
       m: () => this.remarks.ask(), n: () => this.remarks.next(), s: () => this.remarks.suggest(), f: () => this.find.open(true),
-      o: () => this.views.outline.open(), v: () => this.views.next(), h: () => $("history").click(),
+      o: () => this.views.outline.open(), v: () => this.views.next(), h: () => $("history").click(), w: () => this.askWho(),
     };
     this.listen();
   }
@@ -77,11 +82,11 @@ export class Desk {
   listen() {
     const on = (id, act, kind = "click") => $(id).addEventListener(kind, act);
     // The mouse leaves the keyboard to the text.
-    for (const id of ["undo", "redo", "comment", "suggest"]) on(id, (event) => event.preventDefault(), "mousedown");
+    for (const id of ["undo", "redo", "comment", "suggest", "who-wrote", "menu-who-wrote"]) on(id, (event) => event.preventDefault(), "mousedown");
+    for (const id of ["who-wrote", "menu-who-wrote"]) on(id, () => this.askWho());
+    $("paper").addEventListener("pointerover", (event) => this.loadWho().then(() => this.who.pointed(event), () => {}), { once: true });
     on("close", () => this.close());
     addEventListener("keydown", (event) => this.keyDown(event));
-    // Colour alone does not say to everybody who wrote the words under the pointer.
-    for (const id of ["text", "past"]) on(id, ({ target }) => { $(id).title = target.dataset?.author ? WORDS.atCaret(named(target.dataset.author)) : ""; }, "pointerover");
     addEventListener("beforeunload", (event) => {
       if (this.session.isUnsent || this.session.kept.areWaiting) event.preventDefault();
     });
@@ -104,6 +109,9 @@ export class Desk {
     if (event.key === "Escape" && this.past.isOpen && !isTaken) this.past.close();
   }
 
+  // What tells who wrote a character is loaded once somebody may want to know.
+  askWho() { this.loadWho().then(() => this.who.ask(), () => this.notice.show(WORDS.noServer)); }
+
   // ---- opening and closing
 
   // Whether what is drawn is the pad that is open.
@@ -124,6 +132,7 @@ export class Desk {
     this.find.open(false);
     this.told.forget();
     this.phone.open(false);
+    this.displays.forget();
     this.legend.forget();
     this.remarks.forget();
     this.carets.clear();
@@ -154,6 +163,21 @@ export class Desk {
     this.listAuthors();
   }
 
+  // Authors have other display names than those that are drawn.
+  renamed() {
+    if (!this.isShowing) return;
+    this.peopleKey = null;
+    this.legend.forget();
+    this.past.describe();
+    this.showAll();
+  }
+
+  // The display names of all who are to be seen.
+  askNames() {
+    const { pad, presence } = this.session;
+    if (pad) this.displays.ask([...authorsOf(this.session), ...presence.people.map(({ author }) => author)]);
+  }
+
   showAll() {
     this.showRights();
     this.showPeople();
@@ -177,6 +201,7 @@ export class Desk {
   // From here on nothing can be typed, also while the server takes its time.
   async leave(isLost = false) {
     if (this.past.isOpen) this.past.close();
+    this.who?.hide();
     this.isOpen = false;
     $("work").hidden = $("tools").hidden = $("tools-button").hidden = true;
     document.body.classList.remove("is-offline");
@@ -207,7 +232,7 @@ export class Desk {
   showWho() {
     const { isAway } = this.session;
     $("log-in-again").hidden = !isAway;
-    $("log-out").hidden = $("menu-log-out").hidden = isAway;
+    $("log-out").hidden = $("menu-log-out").hidden = isAway || this.session.isUser;
   }
 
   showRights() {
@@ -267,20 +292,21 @@ export class Desk {
   // What an earlier page had not sent cannot be sent, and is kept.
   returned() { this.notice.show(WORDS.returned); }
 
-  moved({ from, to }) {
-    this.past.note(from, to);
+  moved() {
+    this.past.grow();
     this.warnWhenFull();
   }
 
   showPeople() {
     const { me, presence } = this.session;
     this.giveColours();
+    this.askNames();
     const authors = [...new Set(presence.people.map(({ author }) => author))];
-    const key = JSON.stringify(authors.map((author) => [author, colourOf(author)]));
+    const key = JSON.stringify(authors.map((author) => [author, named(author), colourOf(author)]));
     if (key !== this.peopleKey) {
       this.peopleKey = key;
       $("here").replaceChildren(...authors.map((author) => {
-        const isMe = author === me, title = isMe ? WORDS.you(named(author)) : named(author);
+        const isMe = author === me, title = isMe ? WORDS.you(fullName(author)) : fullName(author);
         return element("li", { className: `${colourOf(author)}${isMe ? " is-me" : ""}`, textContent: named(author), title });
       }));
     }
@@ -337,12 +363,14 @@ export class Desk {
     if (past.shown || isRead) this.carets.clear();
     else if (!this.editor.isWaiting) this.carets.draw(session.presence.others, rectAt);
     if (!past.compared) this.remarks.place(rectAt);
+    this.who?.place();
   }
 
   listAuthors() {
     const { past, session } = this;
     if (!this.isOpen || !session.pad) return;
     this.giveColours();
+    this.askNames();
     this.legend.draw(past.shown ?? session.pad);
   }
 

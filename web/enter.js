@@ -2,8 +2,7 @@
 import { named, setOrigin } from "./authors.js";
 import { NAME } from "./log_in_link.js";
 import { PadList } from "./pad_list.js";
-import { PadSearch } from "./pad_search.js";
-import { $, fill, say } from "./page.js";
+import { $, fill, later, say } from "./page.js";
 import { Lost, Superseded, Unsaved } from "../clients/js/src/errors.js";
 import { begin, offerTemplates, templateText } from "./templates.js";
 import { WORDS, refusal } from "./words.js";
@@ -22,11 +21,18 @@ export function reason(error) {
 export class Enter {
   // `onPad` is called once a pad is open, with what was found in it, and `onLeave` closes it. `onRefused` gets the name of a pad that is not opened though
   // something of it was not sent.
-  constructor(session, kept, { onPad, onLeave, onRefused }) {
-    Object.assign(this, { session, kept, onPad, onLeave, onRefused, wasLost: false });
-    this.list = new PadList(session, (name) => this.enter("join", name));
-    this.search = new PadSearch(session, this.list, {
-      onOpen: (name, found) => this.enter("join", name, "", found), onFault: (error) => say($("open-error"), reason(error)),
+  constructor(session, kept, { displays, onPad, onLeave, onRefused }) {
+    Object.assign(this, { session, kept, displays, onPad, onLeave, onRefused, wasLost: false, search: null });
+    this.list = new PadList(session, displays, (name) => this.enter("join", name));
+    // What searches in all texts is loaded with the first search.
+    this.loadSearch = later(async () => {
+      this.search = new (await import("./pad_search.js")).PadSearch(session, this.list, {
+        onOpen: (name, found) => this.enter("join", name, "", found), onFault: (error) => say($("open-error"), reason(error)),
+      });
+    });
+    $("search").addEventListener("submit", (event) => {
+      event.preventDefault();
+      this.loadSearch().then(() => this.search.search(), () => say($("open-error"), WORDS.noServer));
     });
     $("open").addEventListener("submit", (event) => { event.preventDefault(); this.enter("join", $("pad").value); });
     $("create").addEventListener("click", () => { if ($("open").reportValidity()) this.create($("pad").value); });
@@ -37,7 +43,8 @@ export class Enter {
   async show() {
     if (!this.session.login) { location.reload(); return; } // a pad was opened without a log-in
     for (const id of ["log-in", "kept", "work", "tools", "tools-button", "here", "pad-name", "log-in-again"]) $(id).hidden = true;
-    for (const id of ["enter", "choose", "log-out"]) $(id).hidden = false;
+    for (const id of ["enter", "choose"]) $(id).hidden = false;
+    for (const id of ["log-out", "menu-log-out"]) $(id).hidden = this.session.isUser; // the proxy logs out whom it has logged in
     document.title = WORDS.unnamed;
     $("state").className = "";
     setOrigin(this.session.me);
@@ -51,6 +58,8 @@ export class Enter {
     say($("state"), this.session.isLost ? WORDS.over : WORDS.loggedIn(named(this.session.me)));
     try {
       const pads = await this.session.pads(), kept = await this.kept.ofAuthor(), of = ({ name }) => kept.find(({ pad }) => pad === name);
+      this.displays.forget();
+      this.displays.ask([this.session.me]);
       this.list.show(pads.map((pad) => ({ ...pad, isUnsent: of(pad)?.isUnsent && !of(pad).isElsewhere, keptAt: of(pad)?.time ?? 0 })));
       offerTemplates(pads);
       say($("open-error"), "");
@@ -58,6 +67,13 @@ export class Enter {
       $("no-pads").hidden = true;
       say($("open-error"), reason(error));
     }
+  }
+
+  // Authors have other display names than those that are drawn.
+  renamed() {
+    if ($("enter").hidden || !this.session.login || this.session.isLost) return;
+    say($("state"), WORDS.loggedIn(named(this.session.me)));
+    this.list.renamed();
   }
 
   // Where the connection was lost or is there again, the list is read again.
@@ -106,7 +122,7 @@ export class Enter {
       return;
     }
     begin(this.session, text);
-    this.search.stop();
+    this.search?.stop();
     this.onPad(found);
   }
 }

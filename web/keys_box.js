@@ -9,6 +9,7 @@ const KEYS = [
   ["Tab", "itemIn"], ["Shift+Tab", "itemOut"], ["Esc, Tab", "leaveText"],
   ["Ctrl+Alt+M", "comment"], ["Ctrl+Alt+N", "nextComment"], ["Ctrl+Alt+S", "suggest"], ["Enter", "commentWords"],
   ["Ctrl+Alt+F", "find"], ["Ctrl+Alt+O", "outline"], ["Ctrl+Alt+V", "nextView"], ["Ctrl+Alt+H", "history"], ["Ctrl+P", "print"],
+  ["Ctrl+Alt+W", "whoWrote"], ["←, →", "whoWroteNext"],
 ];
 
 export class KeysBox {

@@ -1,5 +1,5 @@
 // Below the text: who wrote how much of it, and who wrote the words at the caret.
-import { named } from "./authors.js";
+import { authorNow, hint, named } from "./authors.js";
 import { colourOf } from "./colours.js";
 import { $, element, say } from "./page.js";
 import { WORDS } from "./words.js";
@@ -15,13 +15,13 @@ export class Legend {
 
   draw({ text, runs }) {
     const sizes = new Map(), whole = text.length;
-    for (const [author, units] of runs) sizes.set(author, (sizes.get(author) ?? 0) + units);
+    for (const [author, units] of runs) sizes.set(authorNow(author), (sizes.get(authorNow(author)) ?? 0) + units);
     const list = [...sizes].sort((a, b) => b[1] - a[1]).map(([author, units]) => [author, colourOf(author), Math.round((100 * units) / whole)]);
-    const key = JSON.stringify(list);
+    const key = JSON.stringify(list.map(([author, ...rest]) => [named(author), ...rest]));
     if (key === this.key) return;
     this.key = key;
     $("authors").replaceChildren(...list.map(([author, className, percent]) =>
-      element("li", { className, textContent: WORDS.share(named(author), percent) })));
+      element("li", { className, textContent: WORDS.share(named(author), percent), title: hint(author) })));
     if (!list.length) $("authors").append(element("li", { className: "quiet", textContent: WORDS.emptyPad }));
   }
 

@@ -1,11 +1,12 @@
-// Who is here: the form to log in, log-in links, a tab that stays logged in, and logging out.
+// Who is here: the form to log in, log-in links, a tab that stays logged in, users of a proxy, and logging out.
 import { reason } from "./enter.js";
 import { doubt, forgetLogIn, onLink, setPad, stay, stayed } from "./log_in_link.js";
 import { $, fill, say } from "./page.js";
 import { forget } from "./storage.js";
+import { user } from "./user.js";
 import { WORDS, refusal } from "./words.js";
 
-const WRONG_TOKEN = { code: 201 };
+const WRONG_TOKEN = { code: 201 }, HAVE_SESSION = 202;
 
 export class LogIn {
   // `enter` is the list of pads, and `kept` what the browser keeps of them. `onAgain` gets the token of a link for the author whose
@@ -19,14 +20,23 @@ export class LogIn {
     session.on("over", doubt);
   }
 
-  // The page begins: with a log-in link, as the tab was before, or with the form.
+  // The page begins: with a log-in link, as the tab was before, as the user of a proxy, or with the form.
   begin() {
     const login = stayed();
     if (onLink((link) => this.take(link))) return;
-    if (login) this.logInAs(login); else this.ask();
+    if (login) this.logInAs(login); else this.beginAsUser();
   }
 
   // ---- logging in
+
+  // Whoever a proxy has logged in needs no form.
+  async beginAsUser() {
+    const { author, words } = await user();
+    if (this.session.login || this.loggingIn) return;
+    if (author) { await this.logInAs({ name: author.split("@")[0], token: "" }); return; }
+    this.ask();
+    if (words) this.refuse(words);
+  }
 
   ask() {
     for (const id of ["choose", "here", "pad-name", "log-out"]) $(id).hidden = true;
@@ -57,11 +67,17 @@ export class LogIn {
       await this.session.logIn(name, token);
     } catch (error) {
       doubt(error);
+      // A proxy has logged in somebody else than the tab had.
+      if (error.reply?.code === HAVE_SESSION && stayed()) {
+        forgetLogIn();
+        location.reload();
+        return;
+      }
       this.refuse(reason(error));
       return;
     } finally { say($("state"), ""); }
     this.onIn();
-    if ($("stay").checked) stay(name, token); else forgetLogIn();
+    if ($("stay").checked && !this.session.isUser) stay(name, token); else forgetLogIn();
     // Browsers that keep passwords take a form for sent once it is gone and the history has moved.
     $("log-in").hidden = true;
     history.replaceState(null, "", location.href);
@@ -121,7 +137,7 @@ export class LogIn {
     setPad(link.pad);
     if (isKept || session.isOver || session.isLost) { location.reload(); return; }
     session.logOut();
-    this.enter.search.stop();
+    this.enter.search?.stop();
     await this.logInAs(link);
   }
 

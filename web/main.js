@@ -1,4 +1,5 @@
 // The page begins here.
+import { Displays, learnEarlier, setOrigin } from "./authors.js";
 import { Desk } from "./desk.js";
 import { DraftStore } from "./draft_store.js";
 import { Enter, reason } from "./enter.js";
@@ -11,22 +12,26 @@ import { $, label } from "./page.js";
 import { LostRevisions, Taken } from "../clients/js/src/errors.js";
 import { Session } from "../clients/js/src/session.js";
 import { tellIfUnproved } from "./unproved.js";
+import { author } from "./user.js";
 import { webSocket } from "../clients/js/src/wire.js";
 import { WORDS } from "./words.js";
 
 label();
 
 const store = new DraftStore();
-const session = new Session({ store, open: webSocket(`${location.protocol === "https:" ? "wss" : "ws"}://${location.host}/socket`) });
+const open = webSocket(`${location.protocol === "https:" ? "wss" : "ws"}://${location.host}/socket`);
+const session = new Session({ store, open, user: author });
 const kept = new KeptPads(session, store, { onPad: () => desk.open() });
+const displays = new Displays(session, () => { desk.renamed(); enter.renamed(); });
 const enter = new Enter(session, kept, {
+  displays,
   onPad: (found) => { desk.open(); if (found) desk.find.show(found); }, onLeave: () => desk.close(), onRefused: (name) => desk.notOpened(name),
 });
-const desk = new Desk(session, { onClose: () => (logIn.isLeaving ? null : enter.show()), onLogOut: () => logIn.logOut(true) });
+const desk = new Desk(session, { displays, onClose: () => (logIn.isLeaving ? null : enter.show()), onLogOut: () => logIn.logOut(true) });
 const machines = new Machines(session);
 const again = new LogInAgain(session, reason);
 const logIn = new LogIn(session, {
-  kept, enter, onIn: () => machines.logIn(), onAgain: (token) => { again.open(token); return again.logIn(); },
+  kept, enter, onIn: () => { machines.logIn(); learnNumbers(); }, onAgain: (token) => { again.open(token); return again.logIn(); },
   onStay: () => desk.notice.show(""), onUnsent: (text) => desk.notice.show(text, { canLogOut: true }),
 });
 new KeysBox();
@@ -38,8 +43,8 @@ offerLanguages(() => {
 
 const whenOpen = (event, act) => session.on(event, (...given) => { if (desk.isShowing) act(...given); });
 whenOpen("receive", (delta) => desk.receive(delta));
-whenOpen("change", (delta) => { desk.views.changed(delta); desk.remarks.changed(); desk.find.changed(); });
-whenOpen("revision", (step) => desk.moved(step));
+whenOpen("change", (delta) => { desk.who?.changed(delta); desk.views.changed(delta); desk.remarks.changed(); desk.find.changed(); });
+whenOpen("revision", () => desk.moved());
 whenOpen("presence", () => desk.showPeople());
 whenOpen("come", (author) => desk.came(author));
 whenOpen("go", (author) => desk.went(author));
@@ -51,9 +56,16 @@ whenOpen("reread", () => desk.reread());
 session.on("over", () => machines.follow());
 whenOpen("over", (error) => desk.over(error instanceof LostRevisions ? WORDS.gone : error instanceof Taken ? WORDS.taken : reason(error)));
 
+// Another server may answer now than before, under a number of its own.
+async function learnNumbers() {
+  setOrigin(session.me);
+  await learnEarlier();
+  desk.renamed();
+}
+
 let wasLost = false;
 session.on("state", () => {
-  if (wasLost && !session.isLost) tellIfUnproved();
+  if (wasLost && !session.isLost) { tellIfUnproved(); learnNumbers(); }
   wasLost = session.isLost;
   machines.follow();
   enter.showState();

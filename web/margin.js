@@ -1,4 +1,5 @@
 // The comments beside their words.
+import { named } from "./authors.js";
 import { cardOf } from "./cards.js";
 import { colourOf } from "./colours.js";
 import { WORDS } from "./words.js";
@@ -20,7 +21,7 @@ export class Margin {
     this.again = () => this.draw(threads, text, deeds, seen);
     const shown = this.nearest([...threads].sort((a, b) => a.from - b.from), seen);
     const key = ({ id, author, text: words, isResolved, from, to, replies = [] }) => // an unsent one has another id
-      [id, author, colourOf(author), words, isResolved, text.slice(from, to), replies.map(key)];
+      [id, author, named(author), colourOf(author), words, isResolved, text.slice(from, to), replies.map(key)];
     const keys = JSON.stringify([Object.keys(deeds), shown.map(key)]);
     if (keys === this.keys) return;
     this.keys = keys;

@@ -1,7 +1,6 @@
 // Comments that address an author by @NAME, and that this browser has not shown to that author yet.
-import { SEEN } from "../clients/js/src/history.js";
 import { addressed } from "../clients/js/src/threads.js";
-import { storage } from "./storage.js";
+import { SEEN, storage } from "./storage.js";
 
 export class Mentions {
   constructor(session) { this.session = session; }

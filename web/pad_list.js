@@ -11,8 +11,8 @@ const MOST_ASKED = 100;
 
 export class PadList {
   // `onOpen` gets the name of a pad.
-  constructor(session, onOpen) {
-    Object.assign(this, { session, onOpen, pads: [], lines: new Map(), last: new Map(), asks: 0 });
+  constructor(session, displays, onOpen) {
+    Object.assign(this, { session, displays, onOpen, pads: [], lines: new Map(), last: new Map(), asks: 0 });
     $("pads-search").addEventListener("input", () => this.draw());
   }
 
@@ -60,12 +60,15 @@ export class PadList {
       if (!now || this.last.get(name)?.rev === now) continue;
       try {
         const { entries: [entry] } = await glance(session, name, { do: "entries", from: now, count: 1 });
-        if (entry) this.last.set(name, entry);
+        if (entry) { this.last.set(name, entry); this.displays.ask([entry.author]); }
       } catch (error) { if (!error.reply) return; } // a pad that cannot be visited is passed over
       if (asks !== this.asks) return;
       if (this.lines.has(name)) say(this.lines.get(name), this.lineOf(pad));
     }
   }
+
+  // The lines are written anew where an author has another display name.
+  renamed() { for (const pad of this.pads) if (this.lines.has(pad.name)) say(this.lines.get(pad.name), this.lineOf(pad)); }
 
   stop() { this.asks++; }
 }

@@ -27,7 +27,6 @@ export class PadSearch {
   // `list` has the pads and the words, and `onOpen` gets the name of a pad, and what to find in it: { words, at }.
   constructor(session, list, { onOpen, onFault }) {
     Object.assign(this, { session, list, onOpen, onFault, searches: 0 });
-    $("search").addEventListener("submit", (event) => { event.preventDefault(); this.search(); });
     $("pads-search").addEventListener("input", () => this.stop());
   }
 

@@ -45,6 +45,12 @@ function explain(field) {
   field.addEventListener("input", () => field.setCustomValidity(""));
 }
 
+// A part of the page that is loaded once it is wanted. If it does not come, it is asked for again the next time.
+export function later(load) {
+  let part = null;
+  return () => (part ??= load().catch((error) => { part = null; throw error; }));
+}
+
 // Runs an act soon, and once for all calls until then.
 export function gather(act, later = requestAnimationFrame) {
   let isWaiting = false;

@@ -1,24 +1,23 @@
-// The slider: earlier revisions, who made them and when this page saw them, what differs between two of them, and the way
-// back to one.
-import { named } from "./authors.js";
+// The slider: earlier revisions, who made them and when, what differs between two of them, and the way back to one.
+import { hint, named } from "./authors.js";
 import { placed } from "../clients/js/src/comments.js";
 import { reason } from "./enter.js";
 import { History } from "../clients/js/src/history.js";
 import { Lines } from "./lines.js";
-import { $, say } from "./page.js";
+import { $, element, later, say } from "./page.js";
 import { pause } from "../clients/js/src/clock.js";
-import { storage } from "./storage.js";
-import { timeOf } from "./times.js";
+import { clockOf, dateOf, timeOf } from "./times.js";
 import { LABELS, WORDS } from "./words.js";
 
-const STEP = 90, MOST_STEPS = 300, SAVE_EVERY = 5000;
+const STEP = 90, MOST_STEPS = 300, DATES = 5;
 
 export class Past {
   // `onShow` is called when another revision is shown, or none. `onRestore` gets what makes the text of a revision the
   // present one again, a delta over what the pad shows.
-  constructor(session, { onShow, onRestore }) {
-    Object.assign(this, { session, onShow, onRestore, lines: new Lines($("past")) });
-    Object.assign(this, { shown: null, compared: null, wanted: null, isPlaying: false, isOpen: false, isCompareSet: false });
+  constructor(session, { displays, onShow, onRestore }) {
+    Object.assign(this, { session, displays, onShow, onRestore, lines: new Lines($("past")) });
+    Object.assign(this, { shown: null, compared: null, wanted: null, isPlaying: false, isOpen: false, isCompareSet: false, names: null });
+    this.loadNames = later(async () => { this.names = new (await import("./named_revisions.js")).NamedRevisions(this); });
     const on = (id, kind, act) => $(id).addEventListener(kind, act);
     on("history", "click", () => { if (this.isOpen) this.close(); else this.open(); });
     on("back", "click", () => this.close());
@@ -29,19 +28,18 @@ export class Past {
     on("play", "click", () => { if (this.isPlaying) this.stop(); else this.play(); });
     on("compare-rev", "input", () => { this.isCompareSet = $("compare-rev").value !== ""; });
     on("compare", "submit", (event) => { event.preventDefault(); this.compare(); });
-    setInterval(() => this.history?.save(), SAVE_EVERY);
+    on("as-of", "submit", (event) => { event.preventDefault(); this.goTo(new Date($("moment").value)); });
   }
 
   // Another pad is open.
   start(pad) {
-    this.history = new History(pad, storage());
+    this.history = new History(pad);
     this.pad = pad;
     if (this.isOpen) this.close();
   }
 
-  // The page has seen further revisions.
-  note(from, to) {
-    this.history.note(from, to, Date.now());
+  // There are further revisions.
+  grow() {
     if (!this.isOpen) return;
     $("rev").max = this.pad.now;
     this.describe();
@@ -52,8 +50,29 @@ export class Past {
     $("slider").hidden = false;
     $("history").setAttribute("aria-pressed", "true");
     $("rev").max = $("compare-rev").max = this.pad.rev;
+    this.scale();
+    this.loadNames().then(() => this.names.read(), () => {}); // without a connection, there are none
     await this.go(this.pad.rev);
     $("rev").focus();
+  }
+
+  // Below the slider stands when some revisions were made, spread over it.
+  async scale() {
+    const { pad: { rev }, history } = this, step = Math.max(1, Math.floor((rev - 1) / (DATES - 1)));
+    try {
+      const times = rev ? await history.timesBy(step, Math.min(DATES, rev)) : [];
+      if (history !== this.history) return;
+      const dates = times.map(dateOf), words = times.map((time, k) => (dates[k] === dates[k - 1] ? clockOf(time) : dates[k]));
+      $("dates").replaceChildren(...words.map((word, k) => element("span", { textContent: word === words[k - 1] ? "" : word })));
+    } catch { $("dates").replaceChildren(); } // the connection broke
+  }
+
+  // Shows the pad as it was at a moment.
+  async goTo(moment) {
+    this.stop();
+    try {
+      await this.go(await this.history.revAt(moment.getTime()));
+    } catch (error) { say($("rev-made"), reason(error)); }
   }
 
   close() {
@@ -75,10 +94,10 @@ export class Past {
     if (isBusy) return;
     try {
       while (this.isOpen && this.wanted !== null) {
-        const next = this.wanted, text = await this.history.at(next), entry = await this.history.entry(next);
+        const next = this.wanted, text = await this.history.at(next), entry = await this.history.entry(next), time = await this.history.time(next);
         const comments = this.isPlaying ? [] : placed((await this.pad.call({ do: "comments", rev: next })).comments, text.text);
         if (!this.isOpen) return;
-        this.show({ ...text, entry, comments });
+        this.show({ ...text, entry, time, comments });
         if (this.wanted === next) this.wanted = null;
       }
     } catch (error) { say($("rev-made"), reason(error)); }
@@ -104,21 +123,24 @@ export class Past {
     this.onShow();
   }
 
-  // Says which revision it is, who made it, and when the page saw it.
+  // Says which revision it is, who made it, and when.
   describe() {
     const { shown, compared, pad } = this;
     if (!shown) return;
+    this.names?.draw();
     $("restore").disabled = !this.session.mayWrite || compared !== null || shown.text === pad.text;
     if (compared) {
       const { from, to, inserted, dropped } = compared;
       say($("rev-made"), [WORDS.comparing(from, to), WORDS.inserted(inserted), WORDS.dropped(dropped)].join(" · "));
       return;
     }
-    const { rev, entry } = shown, seen = this.history.when(rev), parts = [WORDS.old(rev, pad.now)];
+    const { rev, entry, time } = shown, parts = [WORDS.old(rev, pad.now)];
     parts.push(entry ? WORDS.madeBy(entry.kind, named(entry.author)) : WORDS.start);
-    if (seen && rev) parts.push((seen.isBefore ? WORDS.seenBefore : WORDS.seenAt)(timeOf(seen.at)));
+    if (time) parts.push(timeOf(time));
+    parts.push(...(this.names?.of(rev) ?? []));
     say($("rev-made"), parts.join(" · "));
-    $("rev").setAttribute("aria-valuetext", parts.slice(0, 2).join(", "));
+    $("rev-made").title = entry ? hint(entry.author) : "";
+    $("rev").setAttribute("aria-valuetext", parts.join(", "));
   }
 
   // Compares the shown revision with another one, or ends that.

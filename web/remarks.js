@@ -1,5 +1,6 @@
 // The comments of the open pad: which are seen, where they are marked in the text, and the dialog in which one is written.
-import { named } from "./authors.js";
+import { displayOf, named } from "./authors.js";
+import { authorsIn } from "../clients/js/src/rights.js";
 import { accept } from "../clients/js/src/suggestions.js";
 import { reply, threadsOf } from "../clients/js/src/threads.js";
 import { reason } from "./enter.js";
@@ -150,9 +151,9 @@ export class Remarks {
 
   // Names of authors, to address them.
   drawNames() {
-    const { session } = this.desk, names = session.rights.map(([name]) => name).filter((name) => name !== session.name);
+    const { session } = this.desk, names = authorsIn(session.rights).filter((name) => name !== session.name);
     $("mention").replaceChildren(...names.slice(0, 12).map((name) => {
-      const button = element("button", { type: "button", className: "small", textContent: `@${name}` });
+      const button = element("button", { type: "button", className: "small", textContent: `@${name}`, title: displayOf(name) ?? "" });
       button.addEventListener("click", () => {
         const field = $("comment-text");
         field.setRangeText(`@${name} `, field.selectionStart, field.selectionEnd, "end");

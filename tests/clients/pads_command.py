@@ -3,13 +3,12 @@ import json
 import os
 import re
 import subprocess
-import sys
 import tempfile
 import time
 
 from harness import ROOT, Failed, put_files, want
 from js_client import named
-from scripts_test import NODE, PYTHON
+from scripts_test import PYTHON
 from sockets import NAMES, WAIT, Server
 
 HERE = os.path.dirname(os.path.realpath(__file__))
@@ -282,143 +281,6 @@ def another_past_is_not_mixed_with_what_was_opened():
     want(ann.run("show", "p"), "other\n", "the other pad")
 
 
-def times_are_asked_of_the_server():
-    """Before a scripted server: this one does not say yet when edits were made."""
-    sys.path[:0] = [os.path.join(ROOT, "tests", "conformance")]
-    import asyncio
-
-    from model import ModelPad
-    from model_server import Room
-    from server import Server as Scripted
-
-    async def main():
-        server = Scripted()
-        room = server.model.rooms["p"] = Room(ModelPad(), {"ann": "own"})
-        for at, text in enumerate("abc"):
-            room.pad.edit("ann@1", at, [{"at": at, "text": text}])
-        asked = []
-
-        def times(request):
-            if request["do"] != "times":
-                return None
-            asked.append(request["at"])
-            return {"ok": True, "now": 3, "revs": [2]}
-
-        server.scripted = times
-        await server.start()
-        ann = Pads(server.port)
-        loop = asyncio.get_running_loop()
-        told = await loop.run_in_executor(None, lambda: ann.run("show", "p", "--at", "2026-11-27T10:00Z"))
-        want((told, asked), ("ab\n", [[1795773600000]]), "the text at a moment, and what was asked")
-        told = await loop.run_in_executor(None, lambda: ann.run("export", "p", "--at", "2026-11-27T10:00:00+00:00", "--format", "json"))
-        want(json.loads(told)["rev"], 2, "the revision that is exported")
-        server.scripted = lambda request: None
-        await loop.run_in_executor(None, lambda: ann.run("show", "p", "--at", "2h", status=1, said="does not say when edits were made"))
-        server.stop()
-
-    asyncio.run(main())
-
-
-MARKDOWN = """
-import { toMarkdown } from "%s/web/exports.js";
-const { pad, rev, text, runs, comments } = JSON.parse(process.argv[2]);
-const units = (characters) => Array.from(text).slice(0, characters).join("").length;
-let at = 0;
-const shown = runs.map(([author, length]) => [author, units(at + length) - units(at), (at += length)]);
-const notes = comments.map(({ author, at, length, text: words, resolved }) => ({ author, from: units(at), to: units(at + length), text: words, isResolved: resolved }));
-process.stdout.write(toMarkdown({ name: pad, rev, text, runs: shown, comments: notes }));
-"""
-
-
-def exports_are_those_of_the_page():
-    server, ann = begin()
-    ann.run("create", "p")
-    ann.run("append", "p", "# One <b> & 🙂 two", "", "three")
-    ann.run("grant", "p", "bob", "write")
-    bob = Pads(server.port, "bob")
-    bob.run("append", "p", "bob's 🙂 words")
-    ann.run("comment", "p", "why\n<so>?", "--on", "🙂 two")
-    bob.run("comment", "p", "mine", "--on", "bob's")
-    ann.run("comment", "p", "--resolve", "1-4")
-    put_files([("markdown.mjs", MARKDOWN % ROOT)])
-    exported = ann.run("export", "p", "--format", "json")
-    page = subprocess.run([NODE, "markdown.mjs", exported], capture_output=True, text=True)
-    want((page.stderr, ann.run("export", "p", "--format", "md")), ("", page.stdout), "the Markdown of the page and of pads export")
-    want(ann.run("export", "p"), "# One <b> & 🙂 two\n\nthree\nbob's 🙂 words\n", "the text")
-    ann.run("export", "p", "--format", "html", "-o", "p.html")
-    with open("p.html", encoding="utf-8") as file:
-        text = file.read()
-    want(("One &lt;b&gt; &amp; 🙂 two" in text, "why\n&lt;so&gt;?" in text, "<script" in text), (True, True, False), "what is escaped in HTML")
-    want(re.sub(r"<sup>.*?</sup>|<[^>]*>", "", text[text.index("<pre>") : text.index("</pre>")]), "# One &lt;b&gt; &amp; 🙂 two\n\nthree\nbob&#x27;s 🙂 words\n", "the words in HTML")
-
-
-def texts_are_imported():
-    _, ann = begin()
-    put_files([("Last Year.md", b"\xef\xbb\xbf# Minutes\r\nof 2025 \xf0\x9f\x99\x82\r\n"), ("bad.txt", b"\xff\xfe"), ("long.txt", "0123456789" * 5_000)])
-    ann.run("import", "Last Year.md")
-    want(ann.run("show", "last-year"), "# Minutes\nof 2025 🙂\n", "a text with a mark and CR LF")
-    ann.run("import", "Last Year.md", status=1, said="301")
-    want(json.loads(ann.run("import", "long.txt", "other", "--json")), {"pad": "other", "rev": 5, "characters": 50_000}, "a long text")
-    want(ann.run("show", "other"), "0123456789" * 5_000 + "\n", "all of it")
-    for words, status, said in ((["bad.txt"], 2, "not UTF-8"), (["none.txt"], 2, "No such file"), (["long.txt", "x", "--author", "a=b"], 2, "--author")):
-        ann.run("import", *words, status=status, said=said)
-
-
-HARBOUR = [
-    ["ann@77", 15], ["ann-2@77", 4], ["ann@77", 1], ["bob-astrom@77", 14], ["eve@77", 5], ["bob-astrom@77", 3], ["unnamed@77", 7], ["bob-astrom@77", 1], ["ann@77", 1],
-    ["etherpad@77", 1],
-]
-TEXTS = [
-    "\n", "Minutes of the harbour\n\n", "Minutes of the harbour\nPresent: Ann, Bob\n", "Minutes of the harbour\nPresent: Ann, Bob, Cyd 🙂\n",
-    "Minutes of the port\nPresent: Ann, Bob, Cyd 🙂\n", "Minutes of the port\nPresent: Ann, Eve, Bob, Cyd 🙂\n", "Minutes of the port\nPresent: Ann, Eve, Bob.\n",
-]
-
-
-def an_export_of_etherpad_comes_in_with_its_authors():
-    server, ann = begin(PADS_PEER="77", PADS_PEER_TOKEN="p77")
-    export = f"{HERE}/harbour.etherpad"
-    want("ann-2 of the peer" in ann.run("import", export, "--dry-run"), True, "what would be done")
-    want(ann.run("list"), "", "that nothing is done")
-    ann.run("import", export)
-    shown = json.loads(ann.run("show", "harbour-council-2025", "--json"))
-    want((shown["text"], shown["runs"]), ("Minutes of the port\nPresent: Ann, Eve, Bob, Cyd 🙂!.\n", HARBOUR), "the text with its authors")
-    for rev, text in enumerate(TEXTS, 1):
-        want(json.loads(ann.run("show", "harbour-council-2025", "--rev", str(rev), "--json"))["text"], text, f"revision {rev}")
-    ann.run("import", export)
-    want(json.loads(ann.run("show", "harbour-council-2025", "--json")), shown, "the pad after it was imported again")
-    told = json.loads(ann.run("import", export, "council", "--author", "Bob Åström=bob", "--json"))
-    want([one["here"] for one in told["authors"]], ["ann@77", "bob@77", "unnamed@77", "ann-2@77", "eve@77"], "who they are by --author")
-    want([run[0] for run in json.loads(ann.run("show", "council", "--json"))["runs"]][3], "bob@77", "and so they are in the pad")
-    ann.run("create", "mine")
-    ann.run("append", "mine", "text")
-    ann.run("import", export, "mine", status=1, said="edits of others")
-    ann.run("import", export, "x", "--author", "Zed=zed", status=2, said="no author there is Zed")
-    Pads(server.port, PADS_PEER="77", PADS_PEER_TOKEN="no").run("import", export, "y", status=1, said="accounts file")
-    Pads(server.port).run("import", export, "z", status=2, said="PADS_PEER")
-    put_files([("bad.etherpad", "{}")])
-    ann.run("import", "bad.etherpad", status=2, said="no export of a pad")
-
-
-def random_exports_of_etherpad_come_in(count=4, revisions=150):
-    """Exports of a pad on which five authors type at random, which tests/test_etherpad.py of the library makes."""
-    sys.path[:0] = [os.path.join(ROOT, "clients", "python")]
-    import random
-
-    from tests.test_etherpad import Etherpad
-
-    _, ann = begin(PADS_PEER="77", PADS_PEER_TOKEN="p77")
-    for seed in range(count):
-        pad = Etherpad(random.Random(seed), ["a1", "a2", "a3", "a4", "a5"])
-        pad.put("Z:1>0$", "")
-        for _ in range(revisions):
-            pad.revise()
-        put_files([(f"r{seed}.etherpad", pad.export())])
-        ann.run("import", f"r{seed}.etherpad", f"r{seed}")
-        shown = json.loads(ann.run("show", f"r{seed}", "--json"))
-        owners = [author or "etherpad" for unit, author in pad.units if not 0xDC00 <= ord(unit) < 0xE000]
-        want((shown["text"], [name for name, length in shown["runs"] for _ in range(length)]), (pad.text(), [f"{one}@77" for one in owners]), f"export {seed}")
-
-
 def the_manual_page_has_all_options():
     page = subprocess.run([f"{ROOT}/docs/man", "pads"], capture_output=True, text=True)
     want((page.returncode, page.stderr), (0, ""), "the status of docs/man pads")
@@ -442,11 +304,6 @@ TESTS = [
     named(edits_go_out_as_edits_of_what_was_opened, 60),
     named(an_editor_that_changes_nothing_or_fails_changes_nothing, 60),
     named(what_cannot_be_saved_is_kept_in_a_file, 90),
-    named(another_past_is_not_mixed_with_what_was_opened, 60),
-    named(times_are_asked_of_the_server, 60),
-    named(exports_are_those_of_the_page, 60),
-    named(texts_are_imported, 60),
-    named(an_export_of_etherpad_comes_in_with_its_authors, 90),
-    named(random_exports_of_etherpad_come_in, 60),
+    named(another_past_is_not_mixed_with_what_was_opened, 120),
     named(the_manual_page_has_all_options, 60),
 ]

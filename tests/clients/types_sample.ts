@@ -14,6 +14,11 @@ export async function follow(token: string): Promise<string> {
   await session.resolve(name);
   const { entries } = await pad.call({ do: "entries", from: 1, count: 100 }), { changes } = await pad.call({ do: "changes", rev: 1 });
   const { author }: PadRequests["entries"]["reply"]["entries"][0] = entries[0], { runs } = await new History(pad).at(3);
+  const { at = 0 } = (await pad.call({ do: "entries", from: 1, count: 1, times: true })).entries[0], { rev } = await pad.call({ do: "birth", rev: 1, at: 0 });
+  console.log(new Date(at), rev, (await new History(pad).birth(pad.rev, 0)).time);
+  await new History(pad).mark(3, "Approved");
+  const { marks } = await pad.call({ do: "marks" }), [{ author: by, text, time }] = await new History(pad).marks();
+  console.log(by + text, time - marks[0].at);
   for (const change of changes) if (change[0] === "insert") console.log(change[2].length);
   for (const [who, units] of runs) console.log(who.length + units);
   if (session.state === "over" && session.endedBy instanceof Refused) console.log(session.endedBy.code);
@@ -24,6 +29,10 @@ export async function follow(token: string): Promise<string> {
   await pad.call({ do: "read" });
   // @ts-expect-error: the request lacks its count
   await pad.call({ do: "entries", from: 1 });
+  // @ts-expect-error: the request lacks its place
+  await pad.call({ do: "birth", rev: 1 });
+  // @ts-expect-error: the request lacks its text
+  await pad.call({ do: "mark", rev: 1 });
   // @ts-expect-error: no such right
   await session.grant("bob", "edit");
   // @ts-expect-error: a step keeps, drops or inserts

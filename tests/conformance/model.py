@@ -5,6 +5,7 @@ tests/web/model.mjs again, for tests in Python.
 """
 from __future__ import annotations
 
+import time
 from dataclasses import dataclass, field
 from typing import Any
 
@@ -39,6 +40,7 @@ class ModelPad:
     def __init__(self) -> None:
         self.root = Cell("", "", 0, 1)
         self.entries: list[Request] = []
+        self.times: list[int] = []
         self.remarks: list[Remark] = []
         self.replica = 1
 
@@ -79,6 +81,7 @@ class ModelPad:
         number = sum(1 for entry in self.entries if entry["name"][0] == self.replica) + 1
         name = [self.replica, number]
         self.entries.append({"author": author, "kind": kind, "name": name, "rev": self.now + 1})
+        self.times.append(max([round(time.time() * 1000), *self.times[-1:]]))
         return name
 
     def edit(self, author: str, rev: int, parts: list[Request]) -> list[int]:
@@ -113,6 +116,7 @@ class ModelPad:
     def restore(self, rev: int) -> None:
         """Goes back to a revision, as a store does that is restored from a copy."""
         del self.entries[rev:]
+        del self.times[rev:]
         self.remarks = [one for one in self.remarks if one.born <= rev]
         for remark in self.remarks:
             remark.resolved = 0 if remark.resolved > rev else remark.resolved
@@ -181,8 +185,17 @@ class ModelPad:
             return {"rev": rev, "comments": self.comments(rev)}
         if do == "revs":
             return {"cells": len(self.order()), "length": len(self.at(self.now))}
+        if do == "birth":
+            cell = self.at(rev)[request["at"]]
+            return {"author": cell.author, "rev": cell.born, "at": self.times[cell.born - 1]}
         if do == "entries":
-            return {"entries": self.entries[request["from"] - 1 : request["from"] - 1 + request["count"]]}
+            first = request["from"] - 1
+            entries = self.entries[first : first + request["count"]]
+            return {"entries": [{**entry, "at": at} for entry, at in zip(entries, self.times[first:])] if request.get("times") else entries}
+        if do == "times" and "at" in request:
+            return {"revs": [sum(1 for at in self.times if at <= moment) for moment in request["at"]]}
+        if do == "times":
+            return {"times": self.times[request["from"] - 1 :: request["step"]][: request["count"]]}
         if do == "changes":
             to = self.now if request.get("to") is None else request["to"]
             notes = sum(1 for entry in self.entries[rev:to] if entry["kind"] in ("comment", "resolve"))

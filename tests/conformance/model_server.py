@@ -2,6 +2,7 @@
 from __future__ import annotations
 
 import re
+import time
 from collections.abc import Callable
 from dataclasses import dataclass, field
 from typing import Any
@@ -9,13 +10,13 @@ from typing import Any
 from model import EDITS, Cell, ModelPad, Request
 
 RIGHTS = ["none", "read", "comment", "write", "own"]
-NEEDS = {"insert": "write", "delete": "write", "edit": "write", "comment": "comment", "resolve": "comment", "grant": "own"}
+NEEDS = {"insert": "write", "delete": "write", "edit": "write", "comment": "comment", "resolve": "comment", "grant": "own", "hand": "own", "mark": "write"}
 NAMES = {
     101: "NotJson", 102: "NotRequest", 200: "NoSession", 201: "BadToken", 202: "HaveSession", 300: "NoPad", 301: "PadExists",
     303: "BadName", 310: "NotJoined", 311: "Joined", 312: "Denied", 313: "Crowded", 320: "NoRevision", 321: "OutOfRange",
     322: "Empty", 323: "TooMuch", 326: "NoComment", 900: "Memory", 901: "StoreFull", 902: "Full",
 }
-MOST = {"edit": 10_000, "comment": 2_000, "parts": 16, "entries": 100, "wait": 60}
+MOST = {"edit": 10_000, "comment": 2_000, "parts": 16, "entries": 100, "times": 1_000, "moments": 100, "wait": 60, "marks": 200, "mark": 100}
 NAME = re.compile(r"[a-z0-9-]{1,32}")
 LONE = re.compile("[\ud800-\udfff]")
 
@@ -36,6 +37,10 @@ def is_absent_or_number(value: Any) -> bool:
     return value is None or is_number(value)
 
 
+def is_absent_or_boolean(value: Any) -> bool:
+    return value is None or isinstance(value, bool)
+
+
 def is_name(value: Any) -> bool:
     return isinstance(value, list) and len(value) == 2 and all(map(is_number, value))
 
@@ -45,14 +50,16 @@ PAD = {"pad": is_text}
 REV = {**PAD, "rev": is_number}
 FORMS: dict[str, dict[str, Callable[[Any], bool]]] = {
     "hello": {"name": is_text, "token": is_text}, "pads": {},
-    **{do: PAD for do in ("create", "join", "leave", "revs", "who", "rights")},
+    **{do: PAD for do in ("create", "join", "leave", "revs", "who", "rights", "marks")},
     "insert": {**REV, "at": is_number, "text": is_text}, "delete": {**REV, "at": is_number, "len": is_number},
     "edit": {**REV, "parts": lambda value: isinstance(value, list) and all(map(is_part, value))},
     "comment": {**REV, "at": is_number, "len": is_number, "text": is_text}, "resolve": {**PAD, "comment": is_name},
     **{do: {**PAD, "rev": is_absent_or_number} for do in ("text", "runs", "comments")},
     "changes": {**REV, "to": is_absent_or_number, "wait": is_absent_or_number},
-    "entries": {**PAD, "from": is_number, "count": is_number}, "caret": {**REV, "at": is_number},
-    "grant": {**PAD, "author": is_text, "right": lambda value: value in RIGHTS},
+    "entries": {**PAD, "from": is_number, "count": is_number, "times": is_absent_or_boolean},
+    "times": PAD, "birth": {**REV, "at": is_number}, "caret": {**REV, "at": is_number},
+    "grant": {**PAD, "author": is_text, "right": lambda value: value in RIGHTS}, "hand": {**PAD, "author": is_text},
+    "mark": {**REV, "text": is_text},
 }
 
 
@@ -63,7 +70,16 @@ def refuse(code: int) -> Request:
 def has_form(request: Any) -> bool:
     if not isinstance(request, dict) or request.get("do") not in FORMS:
         return False
+    if request["do"] == "times" and not has_times(request):
+        return False
     return all(is_right(request.get(field)) for field, is_right in FORMS[request["do"]].items())
+
+
+def has_times(request: Request) -> bool:
+    """Moments, or else revisions by steps."""
+    if "at" in request:
+        return isinstance(request["at"], list) and all(map(is_number, request["at"]))
+    return all(is_number(request.get(field)) for field in ("from", "step", "count"))
 
 
 @dataclass(eq=False)
@@ -82,12 +98,13 @@ class Visitor:
 
 @dataclass
 class Room:
-    """A pad, who is there by their visits, and who has which right."""
+    """A pad, who is there by their visits, who has which right, and the names of revisions."""
 
     pad: ModelPad
     rights: dict[str, str]
     visits: int = 0
     present: dict[int, Visitor] = field(default_factory=dict)
+    marks: list[Request] = field(default_factory=list)
 
 
 class ModelServer:
@@ -123,7 +140,11 @@ class ModelServer:
         return f"{name}@{self.replica}"
 
     def may(self, name: str, room: Room, right: str) -> bool:
-        return RIGHTS.index(room.rights.get(name, "none")) >= RIGHTS.index(right)
+        return RIGHTS.index(self.right_of(name, room)) >= RIGHTS.index(right)
+
+    def right_of(self, name: str, room: Room) -> str:
+        """The greater of the author's own right and that of everyone."""
+        return max(room.rights.get(name, "none"), room.rights.get("*", "none"), key=RIGHTS.index)
 
     # ---- requests, refused in the order of docs/PROTOCOL.md
 
@@ -155,7 +176,7 @@ class ModelServer:
         return {"ok": True, "author": self.author(request["name"])}
 
     def _pads(self, name: str) -> list[list[Any]]:
-        return [[pad, room.rights[name], room.pad.now] for pad, room in self.rooms.items() if self.may(name, room, "read")]
+        return [[pad, self.right_of(name, room), room.pad.now] for pad, room in self.rooms.items() if self.may(name, room, "read")]
 
     def _create(self, session: Session, author: str, name: str) -> Request:
         room = self.rooms[name] = Room(ModelPad(), {author: "own"})
@@ -173,7 +194,7 @@ class ModelServer:
             return {"ok": True, "now": room.pad.now}
         if not self.may(author, room, NEEDS.get(do, "read")):
             return refuse(312)
-        return self._refusal(room.pad, request) or self._answer(session, author, room, request)
+        return self._refusal(room, request) or self._answer(session, author, room, request)
 
     def _join(self, session: Session, author: str, name: str, room: Room) -> Request:
         if name in session.visits:
@@ -187,9 +208,16 @@ class ModelServer:
         room.present[room.visits] = Visitor(author)
         return {"ok": True, "now": room.pad.now, "visit": room.visits}
 
-    def _refusal(self, pad: ModelPad, request: Request) -> Request | None:
+    def _refusal_of_times(self, now: int, request: Request) -> Request | None:
+        if "at" in request:
+            return refuse(322) if not request["at"] else refuse(323) if len(request["at"]) > MOST["moments"] else None
+        if not 1 <= request["from"] <= now + 1:
+            return refuse(320)
+        return refuse(322) if request["step"] * request["count"] == 0 else refuse(323) if request["count"] > MOST["times"] else None
+
+    def _refusal(self, room: Room, request: Request) -> Request | None:
         """Why a request is refused for what it asks of the text: the revision, the places, emptiness and size."""
-        do, now = request["do"], pad.now
+        do, pad, now = request["do"], room.pad, room.pad.now
         rev = now if request.get("rev") is None else request["rev"]
         to = now if request.get("to") is None else request["to"]
         if rev > now or to > now or to < rev:
@@ -198,6 +226,13 @@ class ModelServer:
             if not 1 <= request["from"] <= now + 1:
                 return refuse(320)
             return refuse(322) if request["count"] == 0 else refuse(323) if request["count"] > MOST["entries"] else None
+        if do == "times":
+            return self._refusal_of_times(now, request)
+        if do == "mark":
+            is_much = len(request["text"]) > MOST["mark"] or len(room.marks) >= MOST["marks"]
+            return refuse(322) if not request["text"] else refuse(323) if is_much else None
+        if do == "birth":
+            return None if request["at"] < len(pad.at(rev)) else refuse(321)
         if do in ("insert", "delete", "edit", "comment", "caret"):
             return self._refusal_of_parts(pad, rev, do, request.get("parts", [request]))
         if do == "resolve":
@@ -226,12 +261,28 @@ class ModelServer:
         elif do == "grant":
             room.rights[request["author"]] = request["right"]
             answer = {}
+        elif do == "mark":
+            room.marks.append({"rev": request["rev"], "author": author, "at": round(time.time() * 1000), "text": request["text"]})
+            answer = {}
+        elif do == "marks":
+            answer = {"marks": list(room.marks)}
+        elif do == "hand":
+            if author != next(iter(room.rights)):
+                return refuse(312)
+            self._hand(room, author, request["author"])
+            answer = {}
         elif do == "caret":
             room.present[visit].caret = pad.at(request["rev"])[request["at"] - 1] if request["at"] else None
             answer = {}
         else:
             return pad.reply(self.author(author), request)
         return {"ok": True, "now": pad.now, **answer}
+
+    def _hand(self, room: Room, owner: str, heir: str) -> None:
+        """The heir is listed first, and the owner before it last, with the right to write."""
+        if heir != owner:
+            others = {name: right for name, right in room.rights.items() if name not in (owner, heir)}
+            room.rights = {heir: "own", **others, owner: "write"}
 
     def _who(self, room: Room) -> list[Request]:
         """A caret is behind its character, or behind the one before it that is still shown."""

@@ -28,11 +28,10 @@ def log_in_twice(test):
 def log_out(test):
     """Nothing of the pads stays in the browser."""
     ann, check = test.ann, test.check
-    make(test, "secret-project", "words")
-    ann.type("more ", 0)
-    ann.is_saved()
+    bob = make(test, "secret-project", "words")
+    bob.ask(do="comment", pad="secret-project", rev=1, at=0, len=5, text="@ann, look")
     keys = lambda: ann.run("return Object.keys(localStorage).filter(key => key !== 'view')")
-    check("the page keeps when it saw revisions", until(lambda: "seen secret-project" in keys(), 12), keys())
+    check("the page keeps which comments it has shown", until(lambda: "seen @ann secret-project" in keys(), 12), keys())
     ann.click("close")
     ann.click("log-out")
     check("an author who logs out leaves no pad's name behind", until(lambda: ann.get("log-in").is_displayed() and not keys()), keys())

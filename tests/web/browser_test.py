@@ -10,7 +10,9 @@ import os
 import random
 import sys
 import tempfile
+import time
 
+from births_checks import births
 from browser_limits import browser_limits
 from compositions import compositions
 from drafts_checks import drafts
@@ -22,7 +24,9 @@ from keyboard import by_hand
 from list_checks import lists
 from log_in_checks import log_ins
 from looks import exports, looks
+from marks_checks import named_revisions
 from minutes_checks import minutes
+from names_checks import display_names
 from page_checks import plain
 from threads_checks import threads
 from whole_day import whole_day
@@ -214,7 +218,18 @@ def history(test):
     until(made)
     now = int(ann.get("rev").get_property("max"))
     check("the slider begins at the present", now > 20 and made().startswith(f"Revision {now} of"), made())
-    check("and knows when it was seen", "seen by this browser " in made(), made())
+    today, tomorrow = time.strftime("%b %-d, %Y"), time.time() + 86400
+    check("and knows when it was made", until(lambda: today in made()), made())
+    check("below it stand dates", until(lambda: ann.get("dates").text.startswith(today)), ann.get("dates").text)
+    as_of = lambda moment: ann.run("""
+    const moment = document.getElementById('moment');
+    moment.value = arguments[0];
+    moment.form.requestSubmit();
+    """, time.strftime("%Y-%m-%dT%H:%M", time.localtime(moment)))
+    as_of(tomorrow - 2 * 86400)
+    check("yesterday the pad was empty", until(lambda: made().startswith("Revision 0 of")), made())
+    as_of(tomorrow)
+    check("tomorrow it will be as it is now", until(lambda: made().startswith(f"Revision {now} of")), made())
     bob.type("!", units(bob.text))
     ann.run("const rev = document.getElementById('rev'); rev.value = arguments[0]; rev.dispatchEvent(new Event('input'))", int(now * 0.6))
     check("an earlier revision is shown", until(lambda: made().startswith(f"Revision {int(now * 0.6)} of")), made())
@@ -268,7 +283,7 @@ def restoring(test):
 def rights(test):
     ann, bob, check = test.ann, test.bob, test.check
     ann.click("rights")
-    choose = "const select = document.querySelector('#rights-list select'); select.value = arguments[0]; select.dispatchEvent(new Event('change'))"
+    choose = "const select = document.querySelector('#rights-list tr:last-child select'); select.value = arguments[0]; select.dispatchEvent(new Event('change'))"
     until(lambda: ann.all("#rights-list select"))
     ann.run(choose, "read")
     check("bob may only read now", until(lambda: not bob.run("return document.getElementById('text').isContentEditable") and "read" in bob.state, 20), bob.state)
@@ -333,6 +348,9 @@ def play(program, folder, tally):
             minutes(test, downloads)
             whole_day(test)
             lists(test)
+            display_names(test)
+            births(test)
+            named_revisions(test)
             log_ins(test)
             hostile(test)
             threads(test)

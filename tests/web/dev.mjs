@@ -2,8 +2,8 @@
 //
 //     node tests/web/dev.mjs PORT SERVER_PORT [FOLDER]
 //
-// For work on the page, and for its tests. A file that is also in FOLDER is served from there. At /kept it says 0, or what the
-// file `kept` in FOLDER has.
+// For work on the page, and for its tests. A file that is also in FOLDER is served from there, also `kept`, `me`
+// and `earlier-numbers`.
 import { createHash } from "node:crypto";
 import fs from "node:fs";
 import http from "node:http";
@@ -19,6 +19,9 @@ const HEADERS = {
   "content-security-policy": "default-src 'none'; script-src 'self'; style-src 'self'; img-src 'self'; connect-src 'self'; base-uri 'none'; form-action 'none'; frame-ancestors 'none'",
   "x-content-type-options": "nosniff", "referrer-policy": "no-referrer", "cache-control": "no-store",
 };
+
+// What a server says of itself that has no standby, no user that a proxy has logged in, and had no other number.
+const ANSWERS = { "/kept": '{"machines":0}', "/me": '{"code":200,"error":"NoSession","ok":false}\n', "/earlier-numbers": '{"numbers":[]}' };
 
 const tagOf = (data) => `"${createHash("sha256").update(data).digest("hex").slice(0, 32)}"`;
 
@@ -38,8 +41,8 @@ function fileOf(name) {
 const server = http.createServer((request, response) => {
   const { pathname } = new URL(request.url, "http://localhost"), name = pathname === "/" ? "index.html" : pathname;
   if (name === "/files.txt") { response.writeHead(200, { ...HEADERS, "content-type": "text/plain; charset=utf-8" }).end(list()); return; }
-  if (name === "/kept" && !fs.existsSync(fileOf(name))) {
-    response.writeHead(200, { ...HEADERS, "content-type": "application/json" }).end('{"machines":0}');
+  if (name in ANSWERS && !fs.existsSync(fileOf(name))) {
+    response.writeHead(200, { ...HEADERS, "content-type": "application/json" }).end(ANSWERS[name]);
     return;
   }
   fs.readFile(fileOf(name), (error, data) => {

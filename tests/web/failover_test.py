@@ -1,6 +1,6 @@
 #!/usr/bin/env python3
 """Two windows of headless Chromium behind HAProxy, in which two authors type while the main server is killed, its store deleted, and its
-standby promoted: each character that was typed is there once.
+standby promoted: each character that was typed is there once. It says how long after the loss each window is saved again.
 
     tests/web/failover_test.py
 
@@ -11,6 +11,7 @@ import re
 import shutil
 import subprocess
 import sys
+import time
 
 HERE = os.path.dirname(os.path.realpath(__file__))
 sys.dont_write_bytecode = True
@@ -24,6 +25,8 @@ from windows import BROKEN, Window, until
 
 HAPROXY = "/usr/sbin/haproxy"
 FEWEST = 30  # characters that each author types before the loss, and after it
+WITHIN = 30  # seconds after the loss, until a window is saved again
+LONGEST = 60  # seconds after the loss in which that is waited for
 # HAProxy's own surroundings, before the lines of docs/STANDBY.md.
 AROUND = """
 defaults
@@ -85,15 +88,34 @@ def kept_on(window):
     return window.run("return document.getElementById('machines').textContent")
 
 
+def listed(window):
+    """The authors in a window's legend, each without the share of the text."""
+    shares = window.run("return [...document.querySelectorAll('#authors li')].map((one) => one.textContent)")
+    return sorted(share.split()[0].rstrip(",:") for share in shares)
+
+
 def lose_the_main_server(machines, web, typists):
-    """While both type, the main machine is lost and the standby promoted; then both type on."""
+    """While both type, the main machine is lost and the standby promoted; then both type on. Returns the time of the loss."""
     wait_for("both have typed", lambda: all(len(it.typed) >= FEWEST for it in typists))
+    lost = time.monotonic()
     machines.kill(1)
     shutil.rmtree("main")
     machines.kill(2)
     machines.promoted(f"--web 127.0.0.1:{web}")
     typed = [len(it.typed) for it in typists]
     wait_for("both have typed on", lambda: all(len(it.typed) >= was + FEWEST for it, was in zip(typists, typed)))
+    return lost
+
+
+def seconds_until_saved(windows, lost):
+    """How long after the loss each window is saved, in which nobody types any more. None: it is not in time."""
+    found = [None] * len(windows)
+    while None in found and time.monotonic() < lost + LONGEST:
+        for place, window in enumerate(windows):
+            if found[place] is None and window.is_saved(0):
+                found[place] = time.monotonic() - lost
+        time.sleep(0.05)
+    return found
 
 
 def play(check):
@@ -109,16 +131,20 @@ def play(check):
             check(f"{name}'s window says that words are on two machines", is_said, kept_on(window))
         typists = [Typist(window, letters) for window, letters in zip(windows, ["0123456789", "abcdefghijklmnopqrstuvwxyz"])]
         try:
-            lose_the_main_server(machines, webs[1], typists)
+            lost = lose_the_main_server(machines, webs[1], typists)
         finally:
             for typist in typists:
                 typist.end()
         due = "\n".join(typist.typed for typist in typists)
-        for window, name in zip(windows, ["ann", "bob"]):
-            check(f"{name}'s window is saved", until(window.is_saved, 60), window.state)
+        for window, name, seconds in zip(windows, ["ann", "bob"], seconds_until_saved(windows, lost)):
+            took = "never" if seconds is None else f"{seconds:.1f} s"
+            is_soon = seconds is not None and seconds <= WITHIN
+            check(f"{name}'s window is saved within {WITHIN} s of the loss: {took}", is_soon, window.state)
             is_said = until(lambda: kept_on(window) == "Kept on one machine only")
             check(f"{name}'s window says that words are on one machine", is_said, kept_on(window))
             check(f"each character is there once in {name}'s window", until(lambda: window.text == due), (window.text, due))
+            is_said = until(lambda: listed(window) == ["ann", "bob"])
+            check(f"{name}'s window shows each author once", is_said, listed(window))
         reader = machines.author("ann", "p", 2)
         text = reader.does(do="text", pad="p")["text"]
         check("each character is there once at the promoted server", text == due, (text, due))

@@ -174,6 +174,34 @@ def looking_on(test):
     check("who has no right on a pad is told so", until(lambda: "don't have access to this pad" in bob.get("open-error").text), bob.get("open-error").text)
 
 
+def opened_to_all(test):
+    """Bob gives everybody a right, takes it away, and hands the pad over to ann."""
+    bob, check = test.bob, test.check
+    cyd = Line(test.server.port, "cyd", "t3")
+    bob.open("ours", "create")
+    bob.click("rights")
+    until(lambda: "Everybody" in bob.run(RIGHTS))
+    denied = cyd.ask(do="join", pad="ours")
+    bob.run(CHOOSE, "Everybody", "read")
+    check("everybody is given a right", says(bob, "Everybody: can read.") or until(lambda: cyd.ask(do="join", pad="ours")["ok"]), denied)
+    check("and has it", cyd.ask(do="pads")["pads"][-1][:2] == ["ours", "read"], cyd.ask(do="pads"))
+    bob.run(CHOOSE, "Everybody", "none")
+    check("until it is taken away", denied["code"] == 312 and until(lambda: not any(pad == "ours" for pad, *_ in cyd.ask(do="pads")["pads"])), denied)
+    bob.get("grant-name").send_keys("ann" + Keys.ENTER)
+    until(lambda: "ann" in bob.run(RIGHTS))
+    bob.click_first("#rights-list button")
+    question = bob.get("hand-question").text
+    check("the page asks before a pad is handed over", "Hand this pad over to ann?" in question, question)
+    test.shot(bob, "hand")
+    bob.click("hand-no")
+    check("and takes no for an answer", not bob.get("hand").is_displayed() and bob.run(RIGHTS)[0] == "bob", bob.run(RIGHTS))
+    bob.click_first("#rights-list button")
+    bob.click("hand-yes")
+    check("then the other author is in charge", until(lambda: bob.run(RIGHTS) == ["ann", "bob"]), bob.run(RIGHTS))
+    check("and the one before may write", not bob.all("#rights-list select") and "Can write" in bob.get("rights-list").text, bob.get("rights-list").text)
+    bob.keys(Keys.ESCAPE)
+
+
 def words(test):
     """What the page says where a new author goes wrong, and what its buttons can do."""
     ann, check = test.ann, test.check
@@ -217,5 +245,5 @@ def words(test):
 
 
 def first_visit(test):
-    for part in (closing, other_pads, colours, looking_on, words):
+    for part in (closing, other_pads, colours, looking_on, opened_to_all, words):
         part(test)

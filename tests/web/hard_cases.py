@@ -93,6 +93,7 @@ def full_pad(test, folder):
     check("from 90 % on the page says so", until(lambda: "% full" in ann.get("notice-text").text), ann.get("notice-text").text)
     test.shot(ann, "nearly-full")
     ann.click("notice-go-on")
+    until(lambda: ann.get("go-on-box").is_displayed())
     ann.get("go-on-name").send_keys(Keys.ENTER)
     wanted = "Continues the pad “small” after its revision 37.\n\n" + "x" * 37
     check("and the pad goes on in a new one", until(lambda: ann.get("pad-name").text == "small-2" and ann.text == wanted), (ann.get("pad-name").text, ann.text))

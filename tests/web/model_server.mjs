@@ -3,7 +3,7 @@ import { ModelPad } from "./model.mjs";
 
 const RIGHTS = ["none", "read", "comment", "write", "own"];
 const EDITS = ["insert", "delete", "edit"];
-const NEEDS = { insert: "write", delete: "write", edit: "write", comment: "comment", resolve: "comment", grant: "own", join: "read" };
+const NEEDS = { insert: "write", delete: "write", edit: "write", comment: "comment", resolve: "comment", grant: "own", hand: "own", join: "read" };
 const REFUSALS = {
   101: "NotJson", 200: "NoSession", 201: "BadToken", 300: "NoPad", 301: "PadExists", 310: "NotJoined", 311: "Joined", 312: "Denied",
   313: "Crowded", 320: "NoRevision", 321: "OutOfRange", 322: "Empty", 323: "TooMuch",
@@ -64,10 +64,11 @@ export class ModelServer {
   }
 
   authorOf({ name }) { return `${name}@${this.replica}`; }
-  may({ name }, room, right) { return RIGHTS.indexOf(room.rights.get(name) ?? "none") >= RIGHTS.indexOf(right); }
+  may({ name }, room, right) { return RIGHTS.indexOf(this.rightOf(name, room)) >= RIGHTS.indexOf(right); }
+  rightOf(name, { rights }) { return RIGHTS[Math.max(...[name, "*"].map((one) => RIGHTS.indexOf(rights.get(one) ?? "none")))]; }
   padsOf(session) {
     const readable = [...this.rooms].filter(([, room]) => this.may(session, room, "read"));
-    return readable.map(([name, room]) => [name, room.rights.get(session.name), room.pad.now]);
+    return readable.map(([name, room]) => [name, this.rightOf(session.name, room), room.pad.now]);
   }
 
   create(session, name) {
@@ -99,6 +100,7 @@ export class ModelServer {
       case "grant":
         room.rights.set(request.author, request.right);
         return { ok: true, now };
+      case "hand": return this.hand(room, session.name, request.author) ?? { ok: true, now };
     }
     if ((request.rev ?? 0) > now || (request.to ?? now) > now) return refuse(320);
     if (request.do === "caret") {
@@ -106,6 +108,15 @@ export class ModelServer {
       return { ok: true, now };
     }
     return this.refusal(request) ?? pad.reply(this.authorOf(session), request);
+  }
+
+  // The heir is listed first, and the owner before it last, with the right to write.
+  hand(room, owner, heir) {
+    if (owner !== [...room.rights.keys()][0]) return refuse(312);
+    if (owner === heir) return null;
+    for (const name of [owner, heir]) room.rights.delete(name);
+    room.rights = new Map([[heir, "own"], ...room.rights, [owner, "write"]]);
+    return null;
   }
 
   // A refusal by what is asked alone.

@@ -6,7 +6,7 @@
 import fs from "node:fs";
 import path from "node:path";
 import { fileURLToPath } from "node:url";
-import { named, setOrigin } from "../../web/authors.js";
+import { Displays, fullName, hint, named, setDisplays, setOrigin } from "../../web/authors.js";
 import { authorsOf, colourOf, giveColours } from "../../web/colours.js";
 import { apply, applyRuns, compose, invert, move, snapped, splice, split, transform, typed } from "../../clients/js/src/delta.js";
 import { toMarkdown } from "../../web/exports.js";
@@ -120,20 +120,18 @@ function undo() {
 }
 
 async function history() {
-  const storage = { getItem: () => null, setItem: () => {} }, asked = [];
+  const asked = [];
   const call = async (request) => {
+    if (request.do === "times" && request.at) return { revs: request.at.map((time) => Math.floor(time / 1000)) };
+    if (request.do === "times") return { times: [1, 2, 3, 4].slice(0, request.count).map((k) => 1000 * (request.from + (k - 1) * request.step)) };
     asked.push([request.rev, request.to]);
     return { changes: [...(request.rev ? [["keep", request.rev]] : []), ["insert", "abcdef".slice(request.rev, request.to), "a@1"]] };
   };
-  const past = new History({ name: "p", call }, storage);
+  const past = new History({ name: "p", call });
   tell("a revision is read by what changed since one that is known", [(await past.at(2)).text, (await past.at(5)).text, (await past.at(5)).text, asked], ["ab", "abcde", "abcde", [[0, 2], [2, 5]]]);
-  past.note(0, 3, 1000);
-  past.note(3, 4, 2000);
-  past.note(6, 7, 90000);
-  const at = [past.when(2), past.when(4), past.when(6), past.when(7), past.when(9)];
-  tell("the page knows when it saw a revision", at.map((one) => one && [one.at, one.isBefore]), [[1000, false], [1000, false], [90000, true], [90000, false], null]);
+  tell("the times of some revisions, and the revision of a time", [await past.timesBy(3, 2), await past.revAt(4321)], [[1000, 4000], 4]);
   const callOther = async ({ rev }) => ({ changes: rev ? [["keep", 2], ["drop", 2], ["insert", "X", "c@1"], ["keep", 3]] : [["insert", "one two", "a@1"]] });
-  const back = await new History({ name: "p", call: callOther }, storage).back(4, 6, "d@1");
+  const back = await new History({ name: "p", call: callOther }).back(4, 6, "d@1");
   tell("the way back brings what was erased, as the author's words", back, [{ keep: 2 }, { insert: "e ", author: "d@1" }, { drop: 1 }]);
   const old = { text: "one two", runs: [["a@1", 4], ["b@1", 3]] };
   const both = merged(old, [["keep", 2], ["drop", 3], ["insert", "X", "c@1"], ["keep", 2]]);
@@ -159,6 +157,51 @@ function exportedFromTwoServers() {
   tell("Markdown tells authors of two servers apart", have.split("\n").slice(4), [
     "<sup>ann@1</sup>one[^1] <sup>ann@2</sup>two <sup>bob</sup>six", "", "[^1]: **ann@2**: “one”: which?", "",
   ]);
+}
+
+// What authors are called, and that words stay attributed to their other names.
+function displayNames() {
+  setOrigin("ann@1");
+  tell("display names are news once", [1, 2].map(() => setDisplays(["ann", "bob"], [{ author: "ann", name: "Ann *A*" }])), [true, false]);
+  tell("an author of this server has a display name", ["ann@1", "ann", "bob@1", "ann@2"].map(named), ["Ann *A*", "Ann *A*", "bob", "ann@2"]);
+  tell("the other name stays beside it", [fullName("ann@1"), fullName("bob@1"), hint("ann@1"), hint("bob@1"), hint("ann@2")], ["Ann *A* (ann)", "bob", "ann", "", ""]);
+  const have = toMarkdown({ name: "p", rev: 1, text: "one two", runs: [["ann@1", 4], ["bob@1", 3]], comments: [] });
+  tell("Markdown has display names as text", have.split("\n").slice(2, 5), ["*Ann \\*A\\* (ann@1), bob@1*", "", "<sup>Ann \\*A\\*</sup>one <sup>bob</sup>two"]);
+  setDisplays(["ann", "bob"], [{ author: "ann", name: "Bob" }, { author: "bob", name: "Bob" }]);
+  const same = toMarkdown({ name: "p", rev: 1, text: "one two", runs: [["ann@1", 4], ["bob@1", 3]], comments: [] });
+  tell("Markdown tells authors with one display name apart", same.split("\n")[4], "<sup>Bob (ann@1)</sup>one <sup>Bob (bob@1)</sup>two");
+  setDisplays(["ann"], [{ author: "ann", name: "\u202eevil\u2066" }]);
+  tell("a display name cannot turn the sentence around it", named("ann"), "evil");
+  setDisplays(["ann"], [{ author: "ann", name: "\u05d0\u05d1" }]);
+  tell("letters that run to the left stay together", named("ann"), "\u2068\u05d0\u05d1\u2069");
+  tell("display names that are gone are news", [setDisplays(["ann", "bob"], []), named("ann@1")], [true, "ann"]);
+  setOrigin("");
+}
+
+// Each author of this server is asked for once, a hundred at a time; a refusal is no reason to ask again, a lost connection is.
+async function displaysAsked() {
+  setOrigin("ann@1");
+  const asked = [], session = { login: {}, isLost: false, people: async (names) => { asked.push(names); return []; } };
+  const displays = new Displays(session, () => {});
+  await displays.ask(["ann@1", "bob@2", "ann", "cyd@1"]);
+  await displays.ask(["cyd@1", "ann@1"]);
+  tell("each author of this server is asked for once", asked.splice(0), [["ann", "cyd"]]);
+  await displays.ask(Array.from({ length: 201 }, (_, k) => `a${k}@1`));
+  tell("a hundred are asked for at a time", asked.splice(0).map(({ length }) => length), [100, 100, 1]);
+  session.people = async (names) => { asked.push(names); throw Object.assign(new Error(), { reply: { code: 102 } }); };
+  for (let k = 0; k < 2; k++) await displays.ask(["dan@1"]);
+  tell("a server that has no display names is asked once", asked.splice(0), [["dan"]]);
+  session.people = async (names) => { asked.push(names); throw new Error(); };
+  for (let k = 0; k < 2; k++) await displays.ask(["eve@1"]);
+  tell("what was not answered is asked for again", asked.splice(0), [["eve"], ["eve"]]);
+  session.isLost = true;
+  await displays.ask(["fay@1"]);
+  tell("nothing is asked without a connection", asked, []);
+  session.isLost = false;
+  displays.forget();
+  await displays.ask(["ann@1"]);
+  tell("a pad that is opened asks anew", asked, [["ann"]]);
+  setOrigin("");
 }
 
 function keys() {
@@ -204,7 +247,7 @@ function logInLinks() {
 }
 
 // What workers load, and what a page loads only if it needs it.
-const LATER = /^(sw\.js|vendor\/.*|languages\/.*|minutes\/(rules|worker)\.js)$/;
+const LATER = /^(sw\.js|vendor\/.*|languages\/.*|minutes\/(rules|worker)\.js|(characters|go_on|named_revisions|pad_search|who_wrote)\.js|clients\/js\/src\/go_on\.js)$/;
 
 function modules() {
   const html = fs.readFileSync(path.join(WEB, "index.html"), "utf8");
@@ -301,6 +344,8 @@ undo();
 await history();
 exported();
 exportedFromTwoServers();
+displayNames();
+await displaysAsked();
 keys();
 linesFound();
 logInLinks();

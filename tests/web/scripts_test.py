@@ -38,6 +38,10 @@ def the_parts_of_the_page_keep_their_laws():
     script(NODE, "parts_test.mjs")
 
 
+def who_wrote_a_character_is_asked_of_servers_of_each_age():
+    script(NODE, "births_test.mjs")
+
+
 def what_is_served_is_what_the_page_is_on_disk():
     script(f"{NODE} --expose-internals", "squeezed_test.mjs")
 
@@ -120,6 +124,7 @@ def named(function, seconds, name=None):
 
 TESTS = [
     named(the_parts_of_the_page_keep_their_laws, 60),
+    named(who_wrote_a_character_is_asked_of_servers_of_each_age, 60),
     named(what_is_served_is_what_the_page_is_on_disk, 60),
     named(the_pages_show_what_a_model_of_the_server_has, 120),
     named(no_words_of_an_author_are_lost_by_the_page, 60),

@@ -25,15 +25,20 @@ async function grantAll(owner) {
   for (const name of WHO) if (name !== owner.session.name) await owner.session.grant(name, "write");
 }
 
+// The longest that a crowd goes on, on a machine that is too busy to break enough in the time that was asked for.
+const LONGEST = 180;
+
 // Six windows of three authors type, and their connections break: at any time, or right behind an edit.
 async function crowd(name, seed, isErasing) {
   const dice = makeDice(seed), pad = `crowd-${process.pid}-${seed}`, typed = [], stats = { breaks: 0, lost: 0 };
   const fresh = freshCharacters(), through = fragile(open, stats), pages = [await page(0, pad, "create", FAST, through)];
   await grantAll(pages[0]);
   for (let k = 1; k < 6; k++) pages.push(await page(k, pad, "join", FAST, through));
-  const end = Date.now() + 1000 * Number(seconds);
+  const begun = Date.now(), made = () => Math.max(...pages.map((one) => one.session.pad?.now ?? 0));
+  const isEnough = () => stats.breaks >= 5 && stats.lost >= 3 && made() >= 50;
+  const goesOn = () => Date.now() < begun + 1000 * (isEnough() ? Number(seconds) : LONGEST);
   await Promise.all(pages.map(async (one) => {
-    while (Date.now() < end) {
+    while (goesOn()) {
       await pause(dice(80));
       const spots = spotsOf(one.session.pad.text), from = dice(3) ? Math.min(spots.length - 1, dice(12)) : dice(spots.length);
       const to = isErasing && !dice(3) ? Math.min(spots.length - 1, from + dice(5)) : from;
@@ -58,7 +63,7 @@ async function crowd(name, seed, isErasing) {
     const isSame = [...text].sort().join("") === typed.sort().join("");
     tell(`${name}: each typed character was made exactly once`, cells === typed.length && isSame, `${typed.length} typed, ${cells} made`);
   }
-  tell(`${name}: there were enough breaks, lost answers and edits`, stats.breaks >= 5 && stats.lost >= 3 && now >= 50);
+  tell(`${name}: there were enough breaks, lost answers and edits`, isEnough(), `${stats.breaks}, ${stats.lost}, ${now}`);
   for (const one of pages) one.session.logOut();
 }
 

@@ -22,7 +22,7 @@ NOT_YET = (ElementClickInterceptedException, ElementNotInteractableException, St
 BROKEN = (WebDriverException, HTTPError)
 ON_DISK = "--disk"
 DORA = "k7Qw&d=T3.x%41-zB9"  # a token with what means something in an address
-ACCOUNTS = f"author ann t1\nauthor bob t2\nauthor cyd t3\nauthor dora {DORA}\n"
+ACCOUNTS = f"author ann t1\nauthor bob t2\nauthor cyd t3\nauthor dora {DORA}\nauthor zed t5\n"
 FLAGS = ("--headless=new", "--no-sandbox", "--disable-gpu", "--disable-dev-shm-usage", "--force-color-profile=srgb")
 TEXT = "return [...document.querySelectorAll('#text .line')].map(line => line.textContent).join('\\n')"
 PAST = "return [...document.querySelectorAll('#past .line')].map(line => line.textContent).join('\\n')"
@@ -181,9 +181,9 @@ class Window:
 
     def faults(self):
         """What the browser logged as a fault, other than a connection that broke: the socket's, or that of the questions
-        whether the server is proved and on how many machines it keeps words, which follow each new one."""
+        whether the server is proved, on how many machines it keeps words, which numbers it had, and who a proxy has logged in."""
         told = [line["message"] for line in self.driver.get_log("browser") if line["level"] == "SEVERE"]
-        is_passing = lambda text: "net::ERR_" in text and any(path in text for path in ("/unproved.txt", "/kept"))
+        is_passing = lambda text: "net::ERR_" in text and any(path in text for path in ("/unproved.txt", "/kept", "/me", "/earlier-numbers"))
         return [text for text in told if "WebSocket" not in text and not is_passing(text)]
 
     def quit(self):

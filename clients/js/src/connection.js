@@ -7,14 +7,15 @@ const FIRST_PAUSE = 300, LAST_PAUSE = 5000;
 // Refusals that pass: out of memory, a full disk, too many clients. When a pad is joined again, also that it is crowded: the
 // visits of connections that broke may still be counted.
 export const PASSING = [900, 901, 902];
-const CROWDED = 313;
+const CROWDED = 313, HAVE_SESSION = 202;
 
-const NOTHING = () => {};
+const NOTHING = () => {}, NOBODY = async () => null;
 
 export class Connection {
-  // `random` is from 0 to 1: pauses differ, so that not all pages come back at once.
-  constructor({ open, clock = realClock, random = Math.random }) {
-    Object.assign(this, { open, clock, random, wire: null, login: null, me: "", isLost: false, isOver: false, endedBy: null });
+  // `random` is from 0 to 1: pauses differ, so that not all pages come back at once. `user` resolves to the author, such as
+  // `ann@1`, as whom a proxy has logged in whoever connects, or to null.
+  constructor({ open, clock = realClock, random = Math.random, user = NOBODY }) {
+    Object.assign(this, { open, clock, random, user, wire: null, login: null, me: "", isUser: false, isLost: false, isOver: false, endedBy: null });
     this.hurry = NOTHING;
   }
 
@@ -39,15 +40,22 @@ export class Connection {
     this.wire = wire;
     await wire.connect();
     try {
-      const reply = await wire.ask({ do: "hello", ...this.login });
-      if (!reply.ok) throw new Refused(reply);
-      this.me = reply.author;
+      this.me = await this.greet(wire);
       isLoggedIn = true;
     } catch (error) {
       if (wire === this.wire) this.wire = null;
       wire.close();
       throw error;
     }
+  }
+
+  // Resolves to the author as whom the connection is logged in. Where a proxy has done that, it has to be the same author, each time.
+  async greet(wire) {
+    const reply = await wire.ask({ do: "hello", ...this.login }), isUser = reply.code === HAVE_SESSION;
+    const author = isUser ? await this.user() : reply.author;
+    if (!(reply.ok || (isUser && author?.split("@")[0] === this.login?.name))) throw new Refused(reply);
+    this.isUser = isUser;
+    return author;
   }
 
   async logIn(name, token) {

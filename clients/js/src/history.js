@@ -1,42 +1,13 @@
-// Earlier revisions of a pad: their texts, who made them, when this page saw them, and what differs between two of them.
+// Earlier revisions of a pad: their texts, who made them and when, and what differs between two of them.
 import { apply, applyRuns, invert } from "./delta.js";
 import { LIMITS } from "./limits.js";
-import { deltaOf } from "./units.js";
+import { count, deltaOf, edgeBefore } from "./units.js";
 
-export const SEEN = "seen "; // begins each key of the storage
-const NOWHERE = { getItem: () => null, setItem: () => {} };
-const MOST_KEPT = 40, MOST_SEEN = 2000, NEAR = 400, BURST = 30000;
+const MOST_KEPT = 40, NEAR = 400, NOT_REQUEST = 102;
 
 export class History {
-  // Of a pad that is open. `storage` keeps the times at which this browser saw revisions.
-  constructor(pad, storage = NOWHERE) {
-    Object.assign(this, { pad, storage, key: `${SEEN}${pad.name}`, isSaved: true });
-    this.texts = new Map();
-    this.entries = new Map();
-    try { this.seen = JSON.parse(storage.getItem(this.key)) ?? []; } catch { this.seen = []; }
-  }
-
-  // The page has just seen revisions from + 1 to `to`. Those of one burst have one time.
-  note(from, to, now) {
-    const last = this.seen[this.seen.length - 1];
-    if (last && last[1] > from) this.seen = [];
-    if (last && last[1] === from && now - last[2] < BURST) last[1] = to;
-    else this.seen.push([from, to, now]);
-    if (this.seen.length > MOST_SEEN) this.seen.splice(0, this.seen.length - MOST_SEEN);
-    this.isSaved = false;
-  }
-
-  save() {
-    if (this.isSaved) return;
-    this.isSaved = true;
-    try { this.storage.setItem(this.key, JSON.stringify(this.seen)); } catch { /* no room: the times are lost */ }
-  }
-
-  // When a revision was seen, or before which time: { at, isBefore }, or null.
-  when(rev) {
-    const found = this.seen.find(([, to]) => to >= rev);
-    return found ? { at: found[2], isBefore: found[0] >= rev } : null;
-  }
+  // Of a pad that is open.
+  constructor(pad) { Object.assign(this, { pad, texts: new Map(), entries: new Map(), times: new Map(), lastBirth: null }); }
 
   // The text and the author runs of a revision.
   async at(rev) {
@@ -54,16 +25,58 @@ export class History {
     return known;
   }
 
-  // Who made a revision, and how: { author, kind }, or null for revision 0.
+  // Who made a revision, and how: { author, kind }, or null for revision 0. A server of today tells the time in the same answer; an
+  // older one does not look at `times`.
   async entry(rev) {
     if (rev === 0) return null;
     if (!this.entries.has(rev)) {
-      const from = Math.max(1, rev - LIMITS.entries / 2);
-      const { entries } = await this.pad.call({ do: "entries", from, count: LIMITS.entries });
-      for (const entry of entries) this.entries.set(entry.rev, entry);
+      const { entries } = await this.pad.call({ do: "entries", from: firstAround(rev), count: LIMITS.entries, times: true });
+      for (const entry of entries) {
+        this.entries.set(entry.rev, entry);
+        if (entry.at !== undefined) this.times.set(entry.rev, entry.at);
+      }
     }
     return this.entries.get(rev) ?? null;
   }
+
+  // When the server heard of a revision, in milliseconds since 1970, or null for revision 0, and where the server does not tell.
+  async time(rev) {
+    if (!(await this.entry(rev))) return null;
+    if (!this.times.has(rev)) await this.askTimes(rev);
+    return this.times.get(rev) ?? null;
+  }
+
+  async askTimes(rev) {
+    const from = firstAround(rev);
+    try {
+      const { times } = await this.pad.call({ do: "times", from, step: 1, count: LIMITS.entries });
+      times.forEach((time, k) => this.times.set(from + k, time));
+    } catch (error) { if (error.code !== NOT_REQUEST) throw error; }
+  }
+
+  // Who wrote the character at a place of a revision, by which revision, and when: { author, rev, time }. The last answer is kept.
+  async birth(rev, at) {
+    const text = rev === this.pad.rev ? this.pad.base : (await this.at(rev)).text, place = count(text, 0, edgeBefore(text, at));
+    if (this.lastBirth?.rev !== rev || this.lastBirth.place !== place) {
+      const { author, rev: born, at: time } = await this.pad.call({ do: "birth", rev, at: place });
+      this.lastBirth = { rev, place, answer: { author, rev: born, time } };
+    }
+    return this.lastBirth.answer;
+  }
+
+  // The named revisions, in the order in which they were named: { rev, author, time, text }, whose author is one of this server.
+  async marks() {
+    return (await this.pad.call({ do: "marks" })).marks.map(({ rev, author, at: time, text }) => ({ rev, author, time, text }));
+  }
+
+  // Names a revision.
+  async mark(rev, text) { await this.pad.call({ do: "mark", rev, text }); }
+
+  // The times of revisions 1, 1 + step, 1 + 2 * step and so on, so many of them at most.
+  async timesBy(step, count) { return (await this.pad.call({ do: "times", from: 1, step, count })).times; }
+
+  // The last revision that is not later than a moment.
+  async revAt(time) { return (await this.pad.call({ do: "times", at: [time] })).revs[0]; }
 
   // The delta that leads from revision `to` back to the text of `rev`. What was erased in between comes back as words of
   // `author`.
@@ -78,6 +91,9 @@ export class History {
     return { from, to, ...merged(old, changes) };
   }
 }
+
+// Where a list of entries begins that has a revision in its middle.
+const firstAround = (rev) => Math.max(1, rev - LIMITS.entries / 2);
 
 export function merged({ text, runs }, changes) {
   const out = { text: "", runs: [], inserted: 0, dropped: 0 };

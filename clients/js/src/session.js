@@ -1,17 +1,16 @@
-// An author's session: keeps one pad open, also over connections that are lost. It has no display; it tells what happens to
-// those who listen (`on`).
+// An author's session: keeps one pad open, over lost connections too. Without a display, it tells those who listen (`on`).
 import { pause } from "./clock.js";
 import { Comments } from "./comments.js";
 import { Connection, PASSING } from "./connection.js";
 import { Drafts, adopt } from "./drafts.js";
 import { Lost, LostRevisions, Misfit, Refused, Superseded, Unsaved } from "./errors.js";
 import { Events } from "./events.js";
-import { goOnIn } from "./go_on.js";
 import { KeptWords } from "./kept.js";
 import { LIMITS } from "./limits.js";
 import { OwnCaret } from "./own_caret.js";
 import { Presence } from "./presence.js";
 import { Pulse } from "./pulse.js";
+import { rightOf, rightsOn } from "./rights.js";
 import { PACE, Pad } from "./sync.js";
 import { UnsentComments } from "./unsent.js";
 
@@ -135,6 +134,8 @@ export class Session extends Connection {
   // ---- pads
 
   async pads() { return (await this.call({ do: "pads" })).pads.map(([name, right, now]) => ({ name, right, now })); }
+  // Those of these authors of the server, 1 to 100, who have a display name.
+  async people(authors) { return (await this.call({ do: "people", authors })).people; }
   create(name) { return this.enter("create", name); }
   join(name) { return this.enter("join", name); }
 
@@ -342,17 +343,16 @@ export class Session extends Connection {
   }
 
   async readRights() {
-    const { pad } = this;
-    let rights = [];
-    try { ({ rights } = await pad.call({ do: "rights" })); } catch (error) { if (error.reply?.code !== 312) throw error; }
+    const { pad } = this, rights = await rightsOn(pad);
     if (pad !== this.pad) return;
-    this.rights = rights;
-    this.right = rights.find(([name]) => name === this.name)?.[1] ?? "none";
+    Object.assign(this, { rights, right: rightOf(this.name, rights) });
     this.tell("rights");
   }
 
-  async grant(author, right) {
-    await this.call({ do: "grant", pad: this.pad.name, author, right });
+  grant(author, right) { return this.changeRights({ do: "grant", author, right }); }
+  hand(author) { return this.changeRights({ do: "hand", author }); }
+  async changeRights(request) {
+    await this.call({ ...request, pad: this.pad.name });
     await this.readRights();
   }
 
@@ -396,5 +396,5 @@ export class Session extends Connection {
     return { used, left: Math.max(0, operations - now) };
   }
 
-  goOnIn(name, firstLine) { return goOnIn(this, name, firstLine); }
+  async goOnIn(name, firstLine) { return (await import("./go_on.js")).goOnIn(this, name, firstLine); }
 }

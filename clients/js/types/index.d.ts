@@ -34,6 +34,8 @@ export interface SessionOptions {
   clock?: Clock;
   /** Numbers from 0 to 1, by which pauses differ. */
   random?: () => number;
+  /** Resolves to the author, such as `ann@1`, as whom a proxy has logged in whoever connects, or to null: at `/me`, for example. */
+  user?: () => Promise<string | null>;
   /** Where what is not sent is kept as it is typed, so that it outlives the program. Without one, it does not. */
   store?: DraftStore;
 }
@@ -120,6 +122,8 @@ export class Session {
   /** The author as others see it, `name@number`. The number of the server can change. */
   readonly me: string;
   readonly name: string;
+  /** Whether a proxy has logged the author in, and not a token. */
+  readonly isUser: boolean;
   /** The pad that is open, and what is there with it, or null. */
   readonly pad: Pad | null;
   readonly presence: Presence | null;
@@ -127,8 +131,9 @@ export class Session {
   /** Words of the author that the server did not take. */
   readonly kept: KeptWords;
   readonly state: State;
+  /** The author's right: the greater of the author's own and that of everyone. */
   readonly right: Right;
-  /** Who has which right. The creator is the first. */
+  /** Who has which right. The owner is the first; `*` is everyone. */
   readonly rights: [author: string, right: Right][];
   readonly mayWrite: boolean;
   readonly mayComment: boolean;
@@ -155,6 +160,8 @@ export class Session {
 
   /** The pads that the author may read. */
   pads(): Promise<{ name: string; right: Right; now: number }[]>;
+  /** Those of these authors of the server, 1 to 100, who have a display name. */
+  people(authors: string[]): Promise<{ author: string; name: string }[]>;
   /**
    * Opens a pad; the one before is saved and left first. Fails with `Refused` (300 no such pad, 301 there is one, 303 no
    * valid name, 312 no right), `Unsaved` if the one before cannot be saved, and `Superseded` if another one was asked for.
@@ -176,8 +183,10 @@ export class Session {
   resolve(comment: Name): Promise<unknown>;
   /** Tells others where the author's caret is in what is shown. */
   moveCaret(at: number): void;
-  /** Gives an author a right, or takes it away. Fails with `Refused`. */
+  /** Gives an author a right, or takes it away; the author `*` is everyone. Fails with `Refused`. */
   grant(author: string, right: Right): Promise<void>;
+  /** Hands the pad over to an author; the owner before may still write. Fails with `Refused`. */
+  hand(author: string): Promise<void>;
 
   /** Asks for the comments, the rights and who is here, rather than wait until they are asked for. */
   refresh(): Promise<void>;
@@ -257,10 +266,39 @@ export class History {
   at(rev: number): Promise<Revision>;
   /** Who made a revision, and how; null for revision 0, which is empty. */
   entry(rev: number): Promise<Entry | null>;
+  /** When the server heard of a revision, in milliseconds since 1970; null for revision 0, and where the server does not tell. */
+  time(rev: number): Promise<number | null>;
+  /** Who wrote the character at a place of a revision's text. The last answer is kept. Fails with `Refused` 102 before an older server. */
+  birth(rev: number, at: number): Promise<Birth>;
+  /** The named revisions, in the order in which they were named. Fails with `Refused` 102 before an older server, as `mark` does. */
+  marks(): Promise<NamedRevision[]>;
+  /** Names a revision, which needs the right to write. A name has 1 to 100 characters, and is never changed or taken away. */
+  mark(rev: number, text: string): Promise<void>;
+  /** The times of revisions 1, 1 + step, 1 + 2 * step, .., at most `count` of them. */
+  timesBy(step: number, count: number): Promise<number[]>;
+  /** The last revision that is not later than this time. */
+  revAt(time: number): Promise<number>;
   /** The delta from revision `to` back to the text of `rev`. What was erased comes back as words of `author`. */
   back(rev: number, to: number, author: string): Promise<Delta>;
   /** Two revisions in one text. */
   compare(from: number, to: number): Promise<Comparison>;
+}
+
+export interface NamedRevision {
+  rev: number;
+  /** Who named it, without the number of a server, since names of revisions are this server's own. */
+  author: string;
+  /** When it was named, in milliseconds since 1970. */
+  time: number;
+  text: string;
+}
+
+export interface Birth {
+  author: string;
+  /** The revision that inserted the character. */
+  rev: number;
+  /** Its time, in milliseconds since 1970. */
+  time: number;
 }
 
 export interface Comparison {

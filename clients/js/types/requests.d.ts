@@ -6,7 +6,8 @@ export type Right = "none" | "read" | "comment" | "write" | "own";
 export type Name = [origin: number, number: number];
 export type Change = ["keep", number] | ["drop", number] | ["insert", string, string];
 export type Part = { at: number; text: string } | { at: number; len: number };
-export interface Entry { author: string; kind: "insert" | "delete" | "edit" | "comment" | "resolve"; name: Name; rev: number }
+/** `at`: its time in milliseconds since 1970, if `times` was asked for. */
+export interface Entry { author: string; kind: "insert" | "delete" | "edit" | "comment" | "resolve"; name: Name; rev: number; at?: number }
 export interface PlacedComment { at: number; author: string; len: number; name: Name; resolved: boolean; text: string }
 
 interface Request<Ask, Reply> { ask: Ask; reply: { ok: true } & Reply }
@@ -28,10 +29,20 @@ export interface PadRequests {
   comments: On<Partial<Rev>, Rev & { comments: PlacedComment[] }>;
   changes: On<Rev & { to?: number; wait?: number }, Rev & { to: number; notes: number; changes: Change[] }>;
   revs: On<None, { cells: number; length: number }>;
-  entries: On<{ from: number; count: number }, { entries: Entry[] }>;
+  entries: On<{ from: number; count: number; times?: boolean }, { entries: Entry[] }>;
+/** Milliseconds since 1970. With `at`, the last revision of each moment, or 0. */
+  times: On<{ from: number; step: number; count: number }, { times: number[] }> | On<{ at: number[] }, { revs: number[] }>;
+  /** Who wrote the character at a place of a revision, in which revision, and when. */
+  birth: On<Rev & { at: number }, { author: string; rev: number; at: number }>;
   caret: On<Rev & { at: number }, None>;
   who: On<None, { who: { author: string; caret: number; visit: number }[] }>;
+  /** The author `*` is everyone. */
   grant: On<{ author: string; right: Right }, None>;
+  hand: On<{ author: string }, None>;
+  /** Names a revision. */
+  mark: On<Rev & { text: string }, None>;
+  /** The named revisions; `at` is when, in milliseconds since 1970. */
+  marks: On<None, { marks: { at: number; author: string; rev: number; text: string }[] }>;
   rights: On<None, { rights: [author: string, right: Right][] }>;
 }
 

@@ -24,6 +24,11 @@ def milliseconds(text: str, now: datetime | None = None) -> int:
         raise Failure(Status.USAGE, f"{text!r} is no time: write {FORMS}") from None
 
 
+def shown(time: int) -> str:
+    """A moment in milliseconds since 1970, in local time with its zone."""
+    return datetime.fromtimestamp(time / 1000).astimezone().isoformat(timespec="seconds")
+
+
 def _moment(text: str, now: datetime) -> datetime:
     if ago := _AGO.fullmatch(text):
         return now - timedelta(seconds=int(ago[1]) * _SECONDS[ago[2]])

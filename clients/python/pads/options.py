@@ -115,11 +115,20 @@ COMMANDS = [
         ),
     ),
     Command(
-        "history", "Lists who made which revision", (
+        "history", "Lists who made which revision, and when", (
             PAD, word("--from", type=int, dest="start", metavar="N", help="From revision N on [default: the last 20]"),
-            word("--count", type=int, default=20, metavar="N", help="How many revisions [default: 20]"), JSON,
+            word("--count", type=int, default=20, metavar="N", help="How many revisions [default: 20]"),
+            word("--times", action="store_true", help="Also when each was made"), JSON,
         ),
     ),
+    Command(
+        "mark", "Names a revision, such as the one that was approved", (
+            PAD, word("rev", type=int, nargs="?", metavar="REV", help="A revision [default: the newest]"),
+            word("text", metavar="TEXT", help="The name, of at most 100 characters"), JSON,
+        ),
+        "A name is never changed or taken away. It is this server's own: other servers are not told.",
+    ),
+    Command("marks", "Lists the named revisions: who named which, and when", (PAD, JSON)),
     Command(
         "diff", "Marks what came and went between two revisions", (
             PAD, word("start", type=int, metavar="FROM", help="A revision"), word("to", type=int, nargs="?", metavar="TO", help="A later one [default: the newest]"),
@@ -128,10 +137,11 @@ COMMANDS = [
     ),
     Command(
         "grant", "Gives an author a right, or lists who has which", (
-            PAD, word("author", nargs="?", metavar="AUTHOR", help="An author; without one, the rights are listed"),
+            PAD, word("author", nargs="?", metavar="AUTHOR", help="An author, or * for everyone; without one, the rights are listed"),
             word("right", nargs="?", choices=RIGHTS, metavar="RIGHT", help="none, read, comment, write or own"), JSON,
         ),
     ),
+    Command("hand", "Hands a pad over: another author owns it, and you may still write", (PAD, word("author", metavar="AUTHOR", help="Who owns it from then on"))),
     Command(
         "log-in", "Asks for your token, tries it, and keeps it in ~/.config/vindrughe", (
             word("address", metavar="ADDRESS", help="tcp://HOST:PORT, tls://HOST:PORT, ws://HOST:PORT/socket or wss://HOST:PORT/socket"),

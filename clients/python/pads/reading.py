@@ -4,6 +4,7 @@ from __future__ import annotations
 import argparse
 import json
 import sys
+from dataclasses import replace
 from typing import Any
 
 from vindrughe import Entry, History, Refused, Session, Visit
@@ -12,7 +13,7 @@ from vindrughe.limits import ENTRIES
 from .colours import Colours
 from .failure import Failure, Status
 from .formats import Snapshot, written
-from .moments import milliseconds
+from .moments import milliseconds, shown
 
 _NOT_REQUEST = 102
 
@@ -45,10 +46,12 @@ async def revision_of(visit: Visit, asked: argparse.Namespace) -> int | None:
     try:
         return (await visit.read_times([moment]))[0]
     except Refused as refusal:
-        if refusal.code != _NOT_REQUEST:
-            raise
-        message = "this server does not say when edits were made, so --at is not possible: take --rev, and `pads history` shows the revisions"
-        raise Failure(Status.REFUSED, message) from None
+        raise _untold(refusal, "--at is not possible: take --rev, and `pads history` shows the revisions") from None
+
+
+def _untold(refusal: Refused, so: str) -> Exception:
+    """Why times cannot be had."""
+    return Failure(Status.REFUSED, f"this server does not say when edits were made, so {so}") if refusal.code == _NOT_REQUEST else refusal
 
 
 async def snapshot_of(visit: Visit, asked: argparse.Namespace) -> Snapshot:
@@ -104,13 +107,30 @@ async def history(session: Session, asked: argparse.Namespace) -> None:
         first = asked.start if asked.start is not None else max(1, now - asked.count + 1)
         entries: list[Entry] = []
         while first <= now and len(entries) < asked.count:
-            entries += await visit.read_entries(first, min(ENTRIES, asked.count - len(entries)))
+            some = await visit.read_entries(first, min(ENTRIES, asked.count - len(entries)), times=asked.times)
+            entries += await _with_times(visit, some) if asked.times else some
             first = entries[-1].rev + 1
     if asked.json:
-        told([{"rev": one.rev, "author": one.author, "kind": one.kind, "name": list(one.name)} for one in entries])
+        told([_as_json(one) for one in entries])
     else:
         for one in entries:
-            print(f"{one.rev}\t{one.author}\t{one.kind}")
+            print(f"{one.rev}\t{one.author}\t{one.kind}" + ("" if one.time is None else f"\t{shown(one.time)}"))
+
+
+async def _with_times(visit: Visit, entries: list[Entry]) -> list[Entry]:
+    """An older server tells the times in an answer of their own."""
+    if all(one.time is not None for one in entries):
+        return entries
+    try:
+        times = await visit.read_times_by(entries[0].rev, 1, len(entries))
+    except Refused as refusal:
+        raise _untold(refusal, "--times is not possible") from None
+    return [replace(one, time=time) for one, time in zip(entries, times)]
+
+
+def _as_json(entry: Entry) -> dict[str, Any]:
+    more = {} if entry.time is None else {"at": entry.time}
+    return {"rev": entry.rev, "author": entry.author, "kind": entry.kind, "name": list(entry.name), **more}
 
 
 async def diff(session: Session, asked: argparse.Namespace) -> None:

@@ -1,4 +1,4 @@
-"""Commands that change a pad: create, append, comment, grant; and log-in."""
+"""Commands that change a pad: create, append, comment, grant, hand; and log-in."""
 from __future__ import annotations
 
 import argparse
@@ -151,6 +151,11 @@ async def grant(session: Session, asked: argparse.Namespace) -> None:
         if asked.right is None:
             raise Failure(Status.USAGE, f"which right does {asked.author} get? none, read, comment, write or own")
         await visit.grant(asked.author, asked.right)
+
+
+async def hand(session: Session, asked: argparse.Namespace) -> None:
+    async with session.visit(asked.pad) as visit:
+        await visit.hand(asked.author)
 
 
 # ---- log-in

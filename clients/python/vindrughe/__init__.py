@@ -21,7 +21,7 @@ from .history import ComparedRun, History, Revision
 from .kept import KeptWords
 from .pad import Pad
 from .presence import Person, Presence
-from .requests import Changes, Counts, Entry, Kind, Name, PadRequests, PlacedComment, Present, Right
+from .requests import Birth, Changes, Counts, Entry, Kind, Name, NamedRevision, PadRequests, PlacedComment, Present, Right
 from .session import Session, State
 from .sync import Pace
 from .transports import Channel, Opener, opener, tcp, websocket
@@ -30,9 +30,9 @@ from .visit import ListedPad, Visit
 __version__ = "0.1.0"
 
 __all__ = [
-    "Came", "Changed", "Changes", "Channel", "Comment", "Comments", "CommentsChanged", "ComparedRun", "Counts", "Delta", "Drop",
-    "Ended", "Entry", "Event", "History", "Insert", "Keep", "KeptWords", "Kind", "ListedPad", "Lost", "LostRevisions", "Misfit",
-    "Moved", "Name", "Opener", "Pace", "Pad", "PadError", "PadRequests", "Person", "PlacedComment", "Presence",
+    "Birth", "Came", "Changed", "Changes", "Channel", "Comment", "Comments", "CommentsChanged", "ComparedRun", "Counts", "Delta",
+    "Drop", "Ended", "Entry", "Event", "History", "Insert", "Keep", "KeptWords", "Kind", "ListedPad", "Lost", "LostRevisions", "Misfit",
+    "Moved", "Name", "NamedRevision", "Opener", "Pace", "Pad", "PadError", "PadRequests", "Person", "PlacedComment", "Presence",
     "PresenceChanged", "Present", "Received", "Refused", "Reread", "Revision", "Right", "RightsChanged", "Run", "Session",
     "State", "StateChanged", "Step", "Superseded", "Unsaved", "Visit", "Went", "WordsRefused", "connect", "delta",
     "difference", "limits", "opener", "tcp", "websocket",

@@ -17,7 +17,7 @@ from .own_caret import OwnCaret
 from .pad import Pad
 from .presence import Presence
 from .pulse import Pulse
-from .requests import Right
+from .requests import EVERYONE, RIGHTS, Right
 from .unsent import UnsentComments
 
 if TYPE_CHECKING:
@@ -26,6 +26,11 @@ if TYPE_CHECKING:
 _FIRST_TRY, _LAST_TRY = 1.0, 10.0  # seconds
 # Refusals that no edit gets if the server has the pad's text: no such revision, and a place behind its end.
 _UNFIT = (320, 321)
+
+
+def _right_of(name: str, rights: list[tuple[str, Right]]) -> Right:
+    """The greater of the author's own right and that of everyone."""
+    return max((right for author, right in rights if author in (name, EVERYONE)), key=RIGHTS.index, default="none")
 
 
 class OpenPad:
@@ -243,7 +248,7 @@ class OpenPad:
         except Refused as refusal:
             if refusal.code != 312:
                 raise
-        self.rights, self.right = rights, dict(rights).get(self._session.name, "none")
+        self.rights, self.right = rights, _right_of(self._session.name, rights)
         self.tell(RightsChanged())
 
     def _made_comment(self, comment: Comment) -> None:

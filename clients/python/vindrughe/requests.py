@@ -14,6 +14,7 @@ from .errors import Misfit
 
 Right: TypeAlias = Literal["none", "read", "comment", "write", "own"]
 RIGHTS: tuple[Right, ...] = get_args(Right)
+EVERYONE = "*"
 Kind: TypeAlias = Literal["insert", "delete", "edit", "comment", "resolve"]
 #: The name of an operation or a comment: the number of its server, and which of that server's operations it is.
 Name: TypeAlias = tuple[int, int]
@@ -56,12 +57,34 @@ class Changes:
 
 @dataclass(frozen=True, slots=True)
 class Entry:
-    """What made a revision, and who."""
+    """What made a revision, and who. `time` is in milliseconds since 1970; None where it was not asked for, or the server is an
+    older one that does not tell."""
 
     rev: int
     author: str
     kind: Kind
     name: Name
+    time: int | None = None
+
+
+@dataclass(frozen=True, slots=True)
+class Birth:
+    """Who wrote a character, in which revision, and the time of that in milliseconds since 1970."""
+
+    author: str
+    rev: int
+    time: int
+
+
+@dataclass(frozen=True, slots=True)
+class NamedRevision:
+    """A revision, what somebody named it, and the time of that in milliseconds since 1970. The author is one of this server: a name
+    without a number."""
+
+    rev: int
+    author: str
+    time: int
+    text: str
 
 
 @dataclass(frozen=True, slots=True)
@@ -140,8 +163,21 @@ class PadRequests(ABC):
         await self.call("resolve", comment=list(comment))
 
     async def grant(self, author: str, right: Right) -> None:
-        """Gives an author a right, or takes it away."""
+        """Gives an author a right, or takes it away. The author `*` is everyone."""
         await self.call("grant", author=author, right=right)
+
+    async def hand(self, author: str) -> None:
+        """Hands the pad over to an author. The owner before may still write."""
+        await self.call("hand", author=author)
+
+    async def put_mark(self, rev: int, text: str) -> None:
+        """Names a revision. A name is never changed or taken away.
+
+        Raises:
+            Refused: 320 without such a revision, 322 without a text, 323 for more than 100 characters or where the pad has 200 names,
+                and 102 by an older server.
+        """
+        await self.call("mark", rev=rev, text=text)
 
     async def put_caret(self, rev: int, at: int) -> None:
         """Puts the visit's caret at a place of a revision."""
@@ -173,10 +209,21 @@ class PadRequests(ABC):
         reply = await self.call("changes", rev=rev, **({} if to is None else {"to": to}), **more)
         return Changes(rev, reply["to"], reply["notes"], reply["changes"])
 
-    async def read_entries(self, start: int, count: int) -> list[Entry]:
-        """What made so many revisions, from `start` on: 1 to 100 of them. Those past the last are not listed."""
-        reply = await self.call("entries", **{"from": start}, count=count)
-        return [Entry(one["rev"], one["author"], cast(Kind, one["kind"]), name_of(one["name"])) for one in reply["entries"]]
+    async def read_entries(self, start: int, count: int, *, times: bool = False) -> list[Entry]:
+        """What made so many revisions, from `start` on: 1 to 100 of them, with their times if they are asked for. Those past the
+        last are not listed."""
+        more = {"times": True} if times else {}
+        reply = await self.call("entries", **{"from": start}, count=count, **more)
+        return [Entry(one["rev"], one["author"], cast(Kind, one["kind"]), name_of(one["name"]), one.get("at")) for one in reply["entries"]]
+
+    async def read_birth(self, rev: int, at: int) -> Birth:
+        """Who wrote the character that a revision shows at a place, in which revision, and when.
+
+        Raises:
+            Refused: 320 without such a revision, 321 without such a place, and 102 by an older server.
+        """
+        reply = await self.call("birth", rev=rev, at=at)
+        return Birth(reply["author"], reply["rev"], reply["at"])
 
     async def read_times(self, moments: Sequence[int]) -> list[int]:
         """For each moment, in milliseconds since 1970, the last revision that is not later.
@@ -185,6 +232,23 @@ class PadRequests(ABC):
             Refused: 102, if the server does not know when edits were made.
         """
         return list((await self.call("times", at=list(moments)))["revs"])
+
+    async def read_times_by(self, start: int, step: int, count: int) -> list[int]:
+        """The times of revisions `start`, `start + step` and so on, 1 to 1,000 of them, in milliseconds since 1970. Those past the
+        last are left out.
+
+        Raises:
+            Refused: 102, if the server does not know when edits were made.
+        """
+        return list((await self.call("times", **{"from": start}, step=step, count=count))["times"])
+
+    async def read_marks(self) -> list[NamedRevision]:
+        """The named revisions, in the order in which they were named.
+
+        Raises:
+            Refused: 102 by an older server.
+        """
+        return [NamedRevision(one["rev"], one["author"], one["at"], one["text"]) for one in (await self.call("marks"))["marks"]]
 
     async def read_counts(self) -> Counts:
         """How many revisions and characters the pad has."""
@@ -197,5 +261,5 @@ class PadRequests(ABC):
         return reply["now"], [Present(one["author"], one["visit"], one["caret"]) for one in reply["who"]]
 
     async def read_rights(self) -> list[tuple[str, Right]]:
-        """Who has which right. The creator is the first."""
+        """Who has which right. The owner is the first; `*` is everyone."""
         return [(author, cast(Right, right)) for author, right in (await self.call("rights"))["rights"]]

@@ -69,12 +69,12 @@ class Session(Connection):
 
     @property
     def right(self) -> Right:
-        """The author's right on the pad."""
+        """The author's right on the pad: the greater of the author's own and that of everyone."""
         return self._open.right if self._open else "none"
 
     @property
     def rights(self) -> list[tuple[str, Right]]:
-        """Who has which right. The creator is the first."""
+        """Who has which right. The owner is the first; `*` is everyone."""
         return self._open.rights if self._open else []
 
     @property
@@ -151,6 +151,10 @@ class Session(Connection):
     async def pads(self) -> list[ListedPad]:
         """The pads that the author may read."""
         return [ListedPad(name, cast(Right, right), now) for name, right, now in (await self.call("pads"))["pads"]]
+
+    async def people(self, authors: list[str]) -> dict[str, str]:
+        """The display names of those of these authors of the server, 1 to 100, who have one."""
+        return {person["author"]: person["name"] for person in (await self.call("people", authors=authors))["people"]}
 
     async def join(self, name: str, load: Callable[[Pad], Awaitable[object]] = Pad.load) -> Pad:
         """Opens a pad. The one before is saved and left first.
@@ -271,13 +275,23 @@ class Session(Connection):
         await self._opened().refresh()
 
     async def grant(self, author: str, right: Right) -> None:
-        """Gives an author a right on the pad, or takes it away.
+        """Gives an author a right on the pad, or takes it away. The author `*` is everyone.
 
         Raises:
-            Refused: this author does not own the pad (312), or the other one made it (315).
+            Refused: this author may not own the pad (312), or the other one is its owner (315).
         """
         opened = self._opened()
         await opened.pad.grant(author, right)
+        await opened.read_rights()
+
+    async def hand(self, author: str) -> None:
+        """Hands the pad over to another author. This one may still write.
+
+        Raises:
+            Refused: this author is not the owner of the pad (312).
+        """
+        opened = self._opened()
+        await opened.pad.hand(author)
         await opened.read_rights()
 
     def move_caret(self, at: int) -> None:

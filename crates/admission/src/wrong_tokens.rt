@@ -20,7 +20,7 @@ pub const MOST_NAMES: usize = 1_024;
 pub const FORGOTTEN_AFTER: u64 = 600_000;
 
 /// How many wrong tokens came one after the other, and when the last one did, in milliseconds.
-#[derive(Clone, Copy, Debug, PartialEq, Eq)]
+#[derive(Clone, Copy)]
 pub struct TokenCount {
     pub tokens: u32,
     pub last: u64,

@@ -59,6 +59,29 @@ cell_stamp_at-cells_of authors rev cells i =
     rw (cells_at-cells_of, slice_get-map) (option_map-map (cell_of authors) (λ c. c.stamp)
     (slice_get (filter (is_shown rev) cells) i))
 
+pub cell-cells_of : (authors : List Author) (rev : ℕ) (cells : List PlainCell) (i : ℕ) →
+    slice_get (cells_at rev (cells_of authors cells)) i
+    ≡ option_map (cell_of authors) (slice_get (filter (is_shown rev) cells) i)
+cell-cells_of authors rev cells i =
+    ap (λ l. slice_get l i) (cells_at-cells_of authors rev cells)
+    ∙ slice_get-map (cell_of authors) (filter (is_shown rev) cells) i
+
+-- the author of a cell that is visible is known
+known-first : (authors : List Author) (x : PlainCell) (xs : List PlainCell) (i : ℕ) (c : PlainCell) →
+    x.author < length authors → ((j : ℕ) → slice_get xs j ≡ Some c → c.author < length authors)
+    → slice_get (x ∷ xs) i ≡ Some c → c.author < length authors
+known-first authors x xs zero c h rest e =
+    let same : x ≡ c = cc in subst (λ (y : PlainCell). y.author < length authors) same h
+known-first authors x xs (suc i) c h rest e = rest i e
+
+pub known-shown : (authors : List Author) (rev : ℕ) (cells : List PlainCell) (i : ℕ) (c : PlainCell) →
+    AreKnown authors cells → slice_get (filter (is_shown rev) cells) i ≡ Some c → c.author < length authors
+known-shown authors rev [] i c known e = absurd (cc)
+known-shown authors rev (x ∷ cells) i c known e = split (is_shown rev x)
+    (λ shown. known-first authors x (filter (is_shown rev) cells) i c known.0
+    (λ j f. known-shown authors rev cells j c known.1 f) (rw shown at e))
+    (λ hidden. known-shown authors rev cells i c known.1 (rw hidden at e))
+
 pub text_at-cells_of : (authors : List Author) (rev : ℕ) (cells : List PlainCell) → text_at rev (cells_of authors cells)
     ≡ map (λ c. c.character) (filter (is_shown rev) cells)
 text_at-cells_of authors rev cells = rw (cells_at-cells_of)

@@ -137,6 +137,35 @@ stamp-at rev authors text bs i w = ap (λ l. option_map (λ c. c.stamp) (slice_g
               ∙ places bs (i - shown_len rev b) w.1 ∙ sym (rw (le-ltb i (shown_len rev b) past) refl)
         ]
 
+-- ---- the cell at a place
+pub shown-cell : (rev : ℕ) (authors : List Author) (text : List ℕ) (bs : List Block) (place rank offset : ℕ)
+    (b : Block) → AllByRecursion (IsWithin (length authors) (length text)) bs → slice_get bs rank ≡ Some b
+    → offset < shown_len rev b → place ≡ sum_by (shown_len rev) (take rank bs) + offset
+    → slice_get (cells_at rev (cells_of authors text bs)) place ≡ slice_get (block_cells authors text b) offset
+shown-cell rev authors text bs place rank offset b w e h p =
+    ap (λ l. slice_get l place) (cells_at-blocks rev authors text bs) ∙ found bs place rank w e p
+  where
+    found : (bs : List Block) (place rank : ℕ) → AllByRecursion (IsWithin (length authors) (length text)) bs →
+        slice_get bs rank ≡ Some b → place ≡ sum_by (shown_len rev) (take rank bs) + offset
+        → slice_get (flat_map (shown_cells rev authors text) bs) place ≡ slice_get (block_cells authors text b) offset
+    found [] place rank w e p = absurd (cc)
+    found (x ∷ bs) place zero w e p =
+        let same : x ≡ b = cc in
+        let h' : offset < shown_len rev x = subst (λ (y : Block). offset < shown_len rev y) (sym same) h in
+        let size = length-shown rev authors text x w.0.1 in
+        let here : place ≡ offset = omega (arith, p) in
+        ap (slice_get (flat_map (shown_cells rev authors text) (x ∷ bs))) here
+        ∙ get_front (shown_cells rev authors text x) (flat_map (shown_cells rev authors text) bs) offset
+        (omega (arith, size, h'))
+        ∙ split (shows rev x) (λ e. rw e refl) (λ e. let none = rw e at h' in absurd (omega (arith, none)))
+        ∙ ap (λ (y : Block). slice_get (block_cells authors text y) offset) same
+    found (x ∷ bs) place (suc rank) w e p =
+        let size = length-shown rev authors text x w.0.1 in
+        let sum = sum_by-cons (shown_len rev) x (take rank bs) in
+        get_back (shown_cells rev authors text x) (flat_map (shown_cells rev authors text) bs) place
+        (sum_by (shown_len rev) (take rank bs) + offset) (omega (arith, size, sum, p))
+        ∙ found bs (sum_by (shown_len rev) (take rank bs) + offset) rank w.1 e refl
+
 -- ---- a loop over a slice that has passed one more item
 pub passes_one : {A : Type 0} (f : A → Bool) (xs : List A) (i : ℕ) (x : A) → i < length xs → x ≡ get_or xs i x →
     f x ≡ true → list_all f (drop i xs) ≡ list_all f xs → list_all f (drop (i + 1) xs) ≡ list_all f xs

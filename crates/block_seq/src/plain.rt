@@ -1,6 +1,10 @@
 //! The plain sequence: a vector of cells in preorder, read and searched from its start.
 //!
 //! It does the least that its contract asks, and stays as the model that tests compare every faster sequence with.
+ghost use Rattle.std.specs.Prelude.{◌<◌, Some, length};
+ghost use Rattle.pad_model.specs.Views.{IsViewOf};
+ghost use Rattle.block_seq.specs.Plain.{cell_of};
+
 use crate::authors::place_author;
 use crate::erase::{count_hidden, erase, has_spans};
 use crate::measure::{count_before, count_through, stands_before};
@@ -9,7 +13,7 @@ use crate::pieces::plain_pieces;
 use crate::place::{PlainCell, has, may_join};
 use crate::put::put_run;
 use crate::readers::{
-    count_shown, greatest_counter, greatest_counter_of, shown_authors, shown_stamp, shown_stamps,
+    count_shown, greatest_counter, greatest_counter_of, shown_authors, shown_cell, shown_stamps,
     shown_text,
 };
 use crate::stretches::{runs_of, spans_of};
@@ -38,6 +42,21 @@ impl Model for PlainSeq {
     ghost view = { λ s. cells_of s.authors.items s.cells.items };
 
     ghost invariant = { λ s. IsPlain s.authors.items s.cells.items };
+}
+
+/// A cell as it is lent to a caller.
+fn lend<'a>(authors: &'a [Author], cell: &PlainCell) -> CellView<'a>
+    requires { cell.now.author < length authors.now }
+    ensures { IsViewOf (Some result) (Some (cell_of authors.now cell.now)) }
+{
+    CellView {
+        stamp: cell.stamp,
+        parent: cell.parent,
+        character: cell.character,
+        author: &authors[cell.author],
+        born: cell.born,
+        died: cell.died,
+    }
 }
 
 impl Sequence for PlainSeq {
@@ -108,7 +127,13 @@ impl Sequence for PlainSeq {
     }
 
     fn stamp_at(&self, rev: u64, place: u64) -> Option<Stamp> {
-        shown_stamp(self.cells.as_slice(), rev, place)
+        let cell = shown_cell(self.cells.as_slice(), rev, place)?;
+        Some(cell.stamp)
+    }
+
+    fn shown_cell(&self, rev: u64, place: u64) -> Option<CellView<'_>> {
+        let cell = shown_cell(self.cells.as_slice(), rev, place)?;
+        Some(lend(self.authors.as_slice(), &cell))
     }
 
     fn text_at(&self, alloc: Global, rev: u64) -> Result<Text, Refusal> {
@@ -177,14 +202,6 @@ impl Sequence for PlainSeq {
 
     fn cell_at(&self, place: u64) -> Option<CellView<'_>> {
         let cell = self.cells.get(place as usize)?;
-        let author = self.authors.get(cell.author)?;
-        Some(CellView {
-            stamp: cell.stamp,
-            parent: cell.parent,
-            character: cell.character,
-            author,
-            born: cell.born,
-            died: cell.died,
-        })
+        Some(lend(self.authors.as_slice(), cell))
     }
 }

@@ -24,15 +24,15 @@ pub fn count_shown(cells: &[PlainCell], rev: u64) -> usize
     cells.iter().filter(|c| is_shown(c, rev)).count()
 }
 
-/// The stamp of the visible character at a place.
-pub fn shown_stamp(cells: &[PlainCell], rev: u64, place: u64) -> Option<Stamp>
-    ensures { result ≡ option_map (λ c. c.stamp) (slice_get (filter (plain.is_shown rev) cells.now) place) }
+/// The visible cell at a place.
+pub fn shown_cell(cells: &[PlainCell], rev: u64, place: u64) -> Option<PlainCell>
+    ensures { result ≡ slice_get (filter (plain.is_shown rev) cells.now) place }
 {
     let mut left = place;
     for cell in cells {
         if is_shown(cell, rev) {
             if left == 0 {
-                return Some(cell.stamp);
+                return Some(*cell);
             }
             left -= 1;
         }

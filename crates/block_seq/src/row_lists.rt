@@ -81,7 +81,7 @@ pub fn add_span(spans: &mut Vec<Span>, first: Stamp, len: u64) -> Result<(), All
 }
 
 /// The character of a block behind so many others.
-fn view_at<'a>(block: &Block, text: &[char], authors: &'a [Author], offset: u64) -> CellView<'a>
+pub fn view_at<'a>(block: &Block, text: &[char], authors: &'a [Author], offset: u64) -> CellView<'a>
     requires sized { IsSized block.now }
     requires within { IsWithin (length authors.now) (length text.now) block.now }
     requires inside { offset < block.now.len }

@@ -1,19 +1,22 @@
 //! What the blocks showed at a revision, by the slides since it: a step for each of these, and not for each block.
 ghost use Rattle.std.specs.Prelude.{◌≡◌, ◌+◌, ◌<◌, ◌≤◌, length, sum_by, flat_map, take, drop, slice_get, Some, is_none, nat_lt, if◌then◌else◌, IfOk, MatchOption};
 ghost use Rattle.std.specs.List.{AllByRecursion};
+ghost use Rattle.pad_model.specs.Cell.{cells_at};
+ghost use Rattle.pad_model.specs.Views.{IsViewOf};
 ghost use Rattle.pad_model.specs.Visible as visible_spec;
 ghost use Rattle.pad_model.specs.declared.limits.TheConstants.{MAX_CHARACTERS};
 ghost use Rattle.blocks.specs.Blocks.{IsKept, IsSized, weight_of};
+ghost use Rattle.blocks.specs.Cells.{IsWithin, cells_of};
 ghost use Rattle.blocks.specs.declared.block.Block as block_spec;
 ghost use Rattle.block_seq.specs.RowLists.{IsSeenAt, shown_front, shown_stamps};
 ghost use Rattle.block_seq.specs.RowSlides.{IsSlid, live_stamps};
 ghost use Rattle.block_seq.specs.Rows.{IsDated, shown_len, stamp_in};
 
-use crate::row_lists::add_span;
+use crate::row_lists::{add_span, view_at};
 use crate::row_readers::{is_at_most, visible_len};
 use blocks::{Block, Spot, find_block};
 use ident_index::IdentIndex;
-use pad_model::{Span, Stamp};
+use pad_model::{Author, CellView, Span, Stamp};
 use std::alloc::{AllocError, Global};
 use text_history::{Carried, Slide, carry, count_before, since};
 use weight_tree::WeightTree;
@@ -76,6 +79,24 @@ fn find_spot(row: PastRow<'_>, rev: u64, place: u64) -> Option<Spot>
 {
     let stamp = find_visible(row.tree, row.slides, rev, place)?;
     find_block(row.tree, row.index, stamp)
+}
+
+/// The character that was visible at a place at a revision, from 0.
+pub fn find_shown<'a>(
+    row: PastRow<'_>,
+    text: &[char],
+    authors: &'a [Author],
+    rev: u64,
+    place: u64,
+) -> Option<CellView<'a>>
+    requires kept { IsKept row.index.now row.tree.now.items }
+    requires slid { IsSlid row.slides.now row.tree.now.items }
+    requires within { AllByRecursion (IsWithin (length authors.now) (length text.now)) row.tree.now.items }
+    ensures { IsViewOf result (slice_get
+        (cells_at rev (cells_of authors.now text.now row.entry.tree.now.items)) place) }
+{
+    let spot = find_spot(row, rev, place)?;
+    Some(view_at(row.tree.get(spot.rank), text, authors, spot.offset))
 }
 
 /// The stamps of `len` characters that were visible at a revision, from a place on, in the longest spans.

@@ -19,7 +19,7 @@ use crate::row_erase::{cut_spans, has_spans};
 use crate::row_kills::kill_named;
 use crate::row_lists::{find_cell, read_authors};
 use crate::row_parts::{count_text, list_runs, list_spans, parts_fit};
-use crate::row_past::{PastRow, count_front, count_visible, find_visible, read_spans};
+use crate::row_past::{PastRow, count_front, count_visible, find_shown, find_visible, read_spans};
 use crate::row_pieces::list_pieces;
 use crate::row_readers::{is_at_most, read_text};
 use crate::row_slides::count_kills;
@@ -257,6 +257,22 @@ impl Sequence for BlockSeq {
     fn stamp_at(&self, rev: u64, place: u64) -> Option<Stamp> {
         let _text = &self.text;
         find_visible(&self.tree, self.slides.as_slice(), rev, place)
+    }
+
+    fn shown_cell(&self, rev: u64, place: u64) -> Option<CellView<'_>> {
+        let row = PastRow {
+            tree: &self.tree,
+            index: &self.index,
+            slides: self.slides.as_slice(),
+            latest: self.latest,
+        };
+        find_shown(
+            row,
+            self.text.as_slice(),
+            self.authors.as_slice(),
+            rev,
+            place,
+        )
     }
 
     fn text_at(&self, alloc: Global, rev: u64) -> Result<Text, Refusal> {

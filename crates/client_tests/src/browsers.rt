@@ -53,7 +53,7 @@ fn a_browser_is_answered_by_messages_in_pieces_of_each_size(rt: HostRuntime) -> 
                 socket,
                 Protocol::PageRequest(PageRequest::new(alloc)),
             );
-            serve_browser(alloc, &mut party, &mut pads, read)?;
+            serve_browser(alloc, &mut party, &mut pads, stage.authors(), 2, read)?;
             let came = party.end(&mut pads).into_written();
             let response = came.len().saturating_sub(wanted.len());
             assert!(rt;
@@ -79,7 +79,7 @@ fn a_page_is_written_and_nothing_more_is_read(rt: HostRuntime) -> Result<(), Fai
         socket,
         Protocol::PageRequest(PageRequest::new(alloc)),
     );
-    serve_browser(alloc, &mut party, &mut pads, 64)?;
+    serve_browser(alloc, &mut party, &mut pads, stage.authors(), 2, 64)?;
     assert!(rt; party.stage() == Stage::Ends, "came {:?}", party.stage());
     let came = party.end(&mut pads).into_written();
     assert!(rt;
@@ -108,7 +108,7 @@ fn a_request_is_refused_while_the_server_is_full(rt: HostRuntime) -> Result<(), 
         Protocol::PageRequest(PageRequest::new(alloc)),
     );
     party.refuse(alloc)?;
-    serve_browser(alloc, &mut party, &mut pads, 64)?;
+    serve_browser(alloc, &mut party, &mut pads, stage.authors(), 2, 64)?;
     assert!(rt; party.stage() == Stage::Ends, "came {:?}", party.stage());
     let came = party.end(&mut pads).into_written();
     assert!(rt;

@@ -63,7 +63,7 @@ fn a_socket_is_closed_once_with_1001(rt: HostRuntime) -> Result<(), Fail> {
         socket,
         Protocol::PageRequest(PageRequest::new(alloc)),
     );
-    serve_browser(alloc, &mut party, &mut pads, 1_000)?;
+    serve_browser(alloc, &mut party, &mut pads, stage.authors(), 2, 1_000)?;
     party.say_goodbye();
     party.say_goodbye();
     write(&mut party)?;

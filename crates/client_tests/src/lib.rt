@@ -12,3 +12,5 @@ mod lines;
 mod memory_socket;
 #[cfg(test)]
 mod stage;
+#[cfg(test)]
+mod users;

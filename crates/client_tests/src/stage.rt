@@ -2,7 +2,7 @@
 use crate::memory_socket::{MemorySocket, Unstored};
 use block_seq::BlockSeq;
 use conversation::{LineOutcome, Names, PadTable, Shared, open_row, take_seats};
-use event_loop::{Party, Transfer};
+use event_loop::{Authors, Party, Transfer};
 use pad_model::Refusal;
 use presence::DEFAULT_PRESENT;
 use sessions::{Accounts, Session};
@@ -10,7 +10,7 @@ use shared_pads::{Open, Seat, SharedPad};
 use std::alloc::{AllocError, Global};
 use std::sync::Wait;
 use std::test::Fail;
-use web_wire::{Machines, Next, NextMessage, Page, Site, kept_page};
+use web_wire::{Machines, Next, NextMessage, Page, Site, UserHeader, kept_page};
 
 const PAGES: &[Page] = &[Page {
     path: "/",
@@ -36,7 +36,10 @@ impl PartyPads {
     pub fn new<R: Wait>(rt: &R, alloc: Global) -> Result<PartyPads, Refusal> {
         let cells = open_row(alloc, 1, DEFAULT_PRESENT, 2, 2)?;
         let names = Names::fill(rt, alloc, cells.as_slice())?;
-        let Ok(accounts) = Accounts::read(alloc, b"author a1 t\nauthor a2 t\n") else {
+        let Ok(accounts) = Accounts::read(
+            alloc,
+            b"author a1 t\nauthor a2 t\nperson a1 one@a.example One\n",
+        ) else {
             return Err(Refusal::Memory);
         };
         Ok(PartyPads {
@@ -44,6 +47,28 @@ impl PartyPads {
             cells,
             names,
         })
+    }
+
+    /// The same, where any user of a proxy is an author.
+    pub fn with_any_user<R: Wait>(rt: &R, alloc: Global) -> Result<PartyPads, Refusal> {
+        let PartyPads {
+            accounts,
+            cells,
+            names,
+        } = PartyPads::new(rt, alloc)?;
+        Ok(PartyPads {
+            accounts: accounts.with_any_user(true),
+            cells,
+            names,
+        })
+    }
+
+    /// The authors.
+    pub fn authors(&self) -> Authors<'_> {
+        Authors {
+            accounts: &self.accounts,
+            replica: 1,
+        }
     }
 
     /// The pads as one table.
@@ -71,10 +96,19 @@ pub fn seated<'a, R: Wait>(
 
 /// A handshake with the key of RFC 6455's example.
 pub fn browser_bytes(alloc: Global) -> Result<Vec<u8>, AllocError> {
+    request_bytes(alloc, "/socket", "")
+}
+
+/// A request for a target with the fields of that handshake, and with more fields.
+pub fn request_bytes(alloc: Global, target: &str, fields: &str) -> Result<Vec<u8>, AllocError> {
     let mut bytes = Vec::new(alloc);
+    bytes.extend_from_slice(b"GET ")?;
+    bytes.extend_from_slice(target.as_bytes())?;
     bytes.extend_from_slice(
-        b"GET /socket HTTP/1.1\r\nHost: pads.example\r\nUpgrade: websocket\r\nConnection: Upgrade\r\nSec-WebSocket-Key: dGhlIHNhbXBsZSBub25jZQ==\r\nSec-WebSocket-Version: 13\r\n\r\n",
+        b" HTTP/1.1\r\nHost: pads.example\r\nUpgrade: websocket\r\nConnection: Upgrade\r\nSec-WebSocket-Key: dGhlIHNhbXBsZSBub25jZQ==\r\nSec-WebSocket-Version: 13\r\n",
     )?;
+    bytes.extend_from_slice(fields.as_bytes())?;
+    bytes.extend_from_slice(b"\r\n")?;
     Ok(bytes)
 }
 
@@ -114,11 +148,16 @@ pub fn serve_lines<R: Wait>(
     Ok(())
 }
 
-/// Serves a browser until all that it sent is answered and written. It is read `piece` bytes at a time.
+/// The number of the address of a proxy, which names the user of a request in the field `X-User`.
+pub const PROXY: u128 = 1;
+
+/// Serves a browser at this address until all that it sent is answered and written. It is read `piece` bytes at a time.
 pub fn serve_browser<R: Wait>(
     alloc: Global,
     party: &mut Party<MemorySocket<'_>>,
     pads: &mut Shared<'_, BlockSeq, R, Open>,
+    authors: Authors<'_>,
+    from: u128,
     piece: usize,
 ) -> Result<(), Fail> {
     let mut chunk = chunk(alloc, piece)?;
@@ -126,10 +165,14 @@ pub fn serve_browser<R: Wait>(
     let site = Site {
         pages: PAGES,
         origins: &[],
+        users: Some(UserHeader {
+            name: "X-User",
+            proxies: &[PROXY],
+        }),
     };
     let kept = kept_page(Machines::Zero);
     for _turn in 0..TURNS {
-        if party.answer_request(site, &kept, true)? == Next::Socket {
+        if party.answer_request(alloc, site, &kept, true, from, authors)? == Next::Socket {
             party.open(alloc);
         }
         let heard = party.hear(&mut line)?;

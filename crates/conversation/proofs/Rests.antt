@@ -60,6 +60,7 @@ ask-leaves replica accounts (request.Peer number token version) a rest = told-le
 ask-leaves replica accounts (request.Create name) a rest = begun-leaves (request.Create name)
     (first_cell name a.rooms) a (create_refusal a.who name) rest
 ask-leaves replica accounts request.Pads a rest = list-leaves a (pads_refusal a.who) rest
+ask-leaves replica accounts (request.People authors) a rest = told-leaves _ _ rest
 ask-leaves replica accounts (request.On name act) a rest = begun-leaves (request.On name act)
     (first_cell name a.rooms) a (act_refusal a.who name act) rest
 

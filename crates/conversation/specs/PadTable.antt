@@ -17,7 +17,7 @@ use Rattle.pad_core.specs.declared.reply.Reply.TheVariants.{Pads}
 use Rattle.pad_core.specs.declared.request.Request.{Request}
 use Rattle.pad_core.specs.declared.request.Request.TheVariants as request
 use Rattle.server_core.specs.AtCell.{past_row}
-use Rattle.server_core.specs.Opening.{act_refusal, create_refusal, hello, pads_refusal, peer}
+use Rattle.server_core.specs.Opening.{act_refusal, create_refusal, hello, pads_refusal, peer, people}
 use Rattle.store_records.specs.Leaves.{may_leave}
 use Rattle.shared_pads.specs.Gates.{IsLet}
 use Rattle.shared_pads.specs.LockedPad.{Called, CanBe}
@@ -125,6 +125,8 @@ RowAsked replica accounts cells who old (request.Create name) answer then new =
     × (then ≡ who)
 RowAsked replica accounts cells who old request.Pads answer then new =
     Lists (pads_refusal who) (length cells) who answer × (new ≡ old) × (then ≡ who)
+RowAsked replica accounts cells who old (request.People authors) answer then new =
+    Answers who (people accounts authors who) answer then × (new ≡ old)
 RowAsked replica accounts cells who old (request.On name act) answer then new =
     Searches (act_refusal who name act) cells name who (request.On name act) old answer new
     × (then ≡ who)

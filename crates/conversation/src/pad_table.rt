@@ -10,7 +10,7 @@ ghost use Rattle.conversation.specs.Seating.{cells_in};
 use crate::names::Names;
 use pad_core::{Pad, Reply, Request};
 use pad_model::{Name, Refusal, Sequence, Who};
-use server_core::{act_refusal, create_refusal, hello, pads_refusal, past_row, peer};
+use server_core::{act_refusal, create_refusal, hello, pads_refusal, past_row, peer, people};
 use sessions::{Accounts, Room, Session};
 use shared_pads::{Gate, LockedPad, Seat, SharedPad};
 use std::alloc::Global;
@@ -104,6 +104,7 @@ impl<'a, S: Sequence, R: Wait, G: Gate> PadTable<'a, S, R, G> {
                 Some(refusal) => Err(refusal),
                 None => self.list(alloc, session.who()),
             },
+            Request::People { names } => people(alloc, self.accounts, names, session.who()),
             Request::On { pad, act } => match act_refusal(session.who(), pad, act) {
                 Some(refusal) => Err(refusal),
                 None => self.search(alloc, seats, session, pad, request),

@@ -1,22 +1,24 @@
 -- A browser, after each of its steps.
-use Rattle.std.proofs.Common.{◌≡◌, ◌≢◌, inl, inr, ℕ, ◌+◌, ◌<◌, true, false, List, [], ◌∷◌, ◌++◌, take, drop, length, Some, Option}
+use Rattle.std.proofs.Common.{◌≡◌, ◌≢◌, inl, inr, ℕ, true, false, List, [], ◌∷◌, ◌++◌, take, drop, length, Some, Option}
 use Rattle.std.proofs.Common.{refl, sym, ap, ◌∙◌, subst, append-nil, append_assoc, arith}
 use Rattle.std.proofs.lemmas.List.{drop_at, take_at}
 use Rattle.std.specs.Prelude.{⊤}
 use Rattle.std.specs.Io.KnownBytes.{Appends, Consumes}
 use Rattle.wire_lines.specs.Buffer.{ShowsBefore}
 use Rattle.wire_lines.specs.declared.buffer.FoundLine.TheVariants as found
-use Rattle.web_wire.specs.Messages.{is_line, message_bytes, with_feed}
+use Rattle.web_wire.specs.Messages.{message_bytes, with_feed}
 use Rattle.web_wire.specs.PageRequests.{Exchange, OpensSocket}
-use Rattle.web_wire.specs.Socket.{Comes, Socket, fed, fresh}
+use Rattle.web_wire.specs.Socket.{Socket, fresh}
+use Rattle.web_wire.specs.declared.page.UserHeader.{UserHeader}
 use Rattle.conversation.specs.Talk.{AnswersFirst, Talk, TellsLong, heard, silent, unwritten}
 use Rattle.event_loop.specs.Laws.{Course}
 use Rattle.event_loop.specs.Laws.Course.{begins, came, quiet, spoke, answered, was_long, said, passed}
 use Rattle.event_loop.specs.Party.{Apart, Board, CallsPlace, ComesTo, Goes, GoesOut, Hears, IsAt, Place, PutsOut}
-use Rattle.event_loop.specs.Party.Goes.{stays, reads, answers, long, last, ends, hears, says, writes, upgrades, opens, closes, refuses, tells, stops}
-use Rattle.event_loop.specs.Turns.{Connects, IsSocket, Item, Leads, SocketTurnLaw, bytes_of, frames_of, replies_of}
+use Rattle.event_loop.specs.Party.Goes.{stays, reads, answers, long, last, ends, hears, says, writes, upgrades, opens, closes, tells_user, refuses, tells, stops}
+use Rattle.event_loop.specs.Turns.{BeginsAs, Item, Leads, SocketTurnLaw, bytes_of, frames_of, replies_of}
 use Rattle.event_loop.specs.Turns.Item.{frames, reply}
 use Rattle.event_loop.specs.Turns.Leads.{begins as at_first, goes}
+use Rattle.event_loop.specs.Users.{SignsIn}
 use Rattle.event_loop.specs.declared.party.Stage.{Stage}
 use Rattle.event_loop.specs.declared.party.Stage.TheVariants.{Talks, Ends, Over}
 use Rattle.event_loop.specs.declared.protocol.Protocol.{Protocol}
@@ -85,12 +87,16 @@ module _ (start : Place) (gives got : List ℕ) where
 
   -- a handshake was answered
   record IsOpening (now : Board) (after : Exchange) : Type 0 where
-    at : IsAt now.session start
+    begun : Place
+    begins_as : BeginsAs after.user start begun
+    at : IsAt now.session begun
     talk : now.talk ≡ silent
     rest : List ℕ
     origins : List (List ℕ)
+    users : Option UserHeader
+    from : ℕ
     request : Exchange
-    may : OpensSocket origins request after
+    may : OpensSocket origins users from request after
     came_from : gives ≡ request.input ++ rest
     unread : now.unread ≡ Some rest
     sent : now.written ≡ Some got
@@ -99,9 +105,13 @@ module _ (start : Place) (gives got : List ℕ) where
   -- messages are read
   record IsOpen (now : Board) (socket : Socket) : Type 0 where
     origins : List (List ℕ)
+    users : Option UserHeader
+    from : ℕ
     request : Exchange
     after : Exchange
-    may : OpensSocket origins request after
+    may : OpensSocket origins users from request after
+    begun : Place
+    begins_as : BeginsAs after.user start begun
     later : List ℕ
     rest : List ℕ
     came_from : gives ≡ request.input ++ (later ++ rest)
@@ -110,7 +120,7 @@ module _ (start : Place) (gives got : List ℕ) where
     items : List Item
     place : Place
     at : IsAt now.session place
-    course : Course CallsPlace Apart start (fresh after.input) later texts (frames_of items) (replies_of items) place
+    course : Course CallsPlace Apart begun (fresh after.input) later texts (frames_of items) (replies_of items) place
         socket now.talk
     sent : List ℕ
     written : now.written ≡ Some (got ++ sent)
@@ -152,9 +162,13 @@ module _ (start : Place) (gives got : List ℕ) where
         let (rest, left, is) = consumes_is old.unread new.unread at.rest bytes at.unread consumes in
         subst Stands (sym same) (λ _. record {
           origins = at.origins;
+          users = at.users;
+          from = at.from;
           request = at.request;
           after = at.after;
           may = at.may;
+          begun = at.begun;
+          begins_as = at.begins_as;
           later = at.later ++ bytes;
           rest = rest;
           came_from = at.came_from
@@ -184,9 +198,13 @@ module _ (start : Place) (gives got : List ℕ) where
         elim (no_first old.talk new.talk before after at.talk first) [ ]
     answered_at (protocol.Socket socket) e at before after was becomes uncut first = record {
       origins = at.origins;
+      users = at.users;
+      from = at.from;
       request = at.request;
       after = at.after;
       may = at.may;
+      begun = at.begun;
+      begins_as = at.begins_as;
       later = at.later;
       rest = at.rest;
       came_from = at.came_from;
@@ -212,9 +230,13 @@ module _ (start : Place) (gives got : List ℕ) where
     long_at (protocol.Upgrading exchange) at uncut tale = elim (no_long old.talk new.talk at.talk tale) [ ]
     long_at (protocol.Socket socket) at uncut tale = record {
       origins = at.origins;
+      users = at.users;
+      from = at.from;
       request = at.request;
       after = at.after;
       may = at.may;
+      begun = at.begun;
+      begins_as = at.begins_as;
       later = at.later;
       rest = at.rest;
       came_from = at.came_from;
@@ -236,9 +258,13 @@ module _ (start : Place) (gives got : List ℕ) where
         → IsOpen (record old { protocol = protocol.Socket next; outbox = old.outbox ++ put; talk = new.talk }) next
     heard_at socket next at put came_as = record {
       origins = at.origins;
+      users = at.users;
+      from = at.from;
       request = at.request;
       after = at.after;
       may = at.may;
+      begun = at.begun;
+      begins_as = at.begins_as;
       later = at.later;
       rest = at.rest;
       came_from = at.came_from;
@@ -247,9 +273,9 @@ module _ (start : Place) (gives got : List ℕ) where
       items = at.items ++ frames put ∷ [];
       place = at.place;
       at = at.at;
-      course = subst (λ l. Course CallsPlace Apart start (fresh at.after.input) at.later (goes_on came_as).0
+      course = subst (λ l. Course CallsPlace Apart at.begun (fresh at.after.input) at.later (goes_on came_as).0
           (frames_of (at.items ++ frames put ∷ [])) l at.place next new.talk) (sym (replies_still at.items put))
-          (subst (λ l. Course CallsPlace Apart start (fresh at.after.input) at.later (goes_on came_as).0 l
+          (subst (λ l. Course CallsPlace Apart at.begun (fresh at.after.input) at.later (goes_on came_as).0 l
           (replies_of at.items) at.place next new.talk) (sym (frames_more at.items put)) (goes_on came_as).1);
       sent = at.sent;
       written = at.written;
@@ -260,18 +286,18 @@ module _ (start : Place) (gives got : List ℕ) where
     }
       where
         goes_on : Hears socket next put old.talk new.talk → (texts : List (List ℕ))
-            × Course CallsPlace Apart start (fresh at.after.input) at.later texts (frames_of at.items ++ put)
+            × Course CallsPlace Apart at.begun (fresh at.after.input) at.later texts (frames_of at.items ++ put)
             (replies_of at.items) at.place next new.talk
         goes_on (inl (comes, same)) = (
           at.texts,
-          subst (Course CallsPlace Apart start (fresh at.after.input) at.later at.texts (frames_of at.items ++ put)
+          subst (Course CallsPlace Apart at.begun (fresh at.after.input) at.later at.texts (frames_of at.items ++ put)
               (replies_of at.items) at.place next) (sym same)
               (quiet at.later at.texts (frames_of at.items) (replies_of at.items) at.place socket next old.talk put
               at.course comes),
         )
         goes_on (inr (text, is, comes, same)) = (
           at.texts ++ text ∷ [],
-          subst (Course CallsPlace Apart start (fresh at.after.input) at.later (at.texts ++ text ∷ [])
+          subst (Course CallsPlace Apart at.begun (fresh at.after.input) at.later (at.texts ++ text ∷ [])
               (frames_of at.items ++ put) (replies_of at.items) at.place next) (sym same)
               (spoke at.later at.texts (frames_of at.items) (replies_of at.items) at.place socket next old.talk text put
               at.course is comes),
@@ -286,9 +312,13 @@ module _ (start : Place) (gives got : List ℕ) where
         }) socket
     said_at socket at line is = record {
       origins = at.origins;
+      users = at.users;
+      from = at.from;
       request = at.request;
       after = at.after;
       may = at.may;
+      begun = at.begun;
+      begins_as = at.begins_as;
       later = at.later;
       rest = at.rest;
       came_from = at.came_from;
@@ -297,13 +327,13 @@ module _ (start : Place) (gives got : List ℕ) where
       items = at.items ++ reply line ∷ [];
       place = at.place;
       at = at.at;
-      course = subst (λ l. Course CallsPlace Apart start (fresh at.after.input) at.later at.texts l
+      course = subst (λ l. Course CallsPlace Apart at.begun (fresh at.after.input) at.later at.texts l
           (replies_of (at.items ++ reply line ∷ [])) at.place socket (unwritten old.talk new.talk.replies))
           (sym (frames_still at.items line))
-          (subst (λ l. Course CallsPlace Apart start (fresh at.after.input) at.later at.texts (frames_of at.items) l
+          (subst (λ l. Course CallsPlace Apart at.begun (fresh at.after.input) at.later at.texts (frames_of at.items) l
           at.place socket (unwritten old.talk new.talk.replies))
           (ap (λ l. replies_of at.items ++ l) front ∙ sym (replies_more at.items line))
-          (subst (λ l. Course CallsPlace Apart start (fresh at.after.input) at.later at.texts (frames_of at.items)
+          (subst (λ l. Course CallsPlace Apart at.begun (fresh at.after.input) at.later at.texts (frames_of at.items)
           (replies_of at.items ++ take (length (with_feed line)) old.talk.replies) at.place socket
           (unwritten old.talk l)) behind
           (said at.later at.texts (frames_of at.items) (replies_of at.items) at.place socket old.talk
@@ -360,7 +390,11 @@ module _ (start : Place) (gives got : List ℕ) where
         at = at.at;
         talk = at.talk;
         rest = at.rest;
+        begun = at.begun;
+        begins_as = at.begins_as;
         origins = at.origins;
+        users = at.users;
+        from = at.from;
         request = at.request;
         may = at.may;
         came_from = at.came_from;
@@ -370,9 +404,13 @@ module _ (start : Place) (gives got : List ℕ) where
       })
       wrote_at (protocol.Socket socket) e at is = subst (λ p. At p Sent) (sym e) (record {
         origins = at.origins;
+        users = at.users;
+        from = at.from;
         request = at.request;
         after = at.after;
         may = at.may;
+        begun = at.begun;
+        begins_as = at.begins_as;
         later = at.later;
         rest = at.rest;
         came_from = at.came_from;
@@ -436,14 +474,21 @@ module _ (start : Place) (gives got : List ℕ) where
           outbox = old.outbox ++ message_bytes line;
         })) (sym is) (said_at socket (now_at (protocol.Socket socket) talks is) line replies))
     one_more (writes not goes_out) = has_written goes_out
-    one_more (upgrades e origins exchange after is may same) = subst Stands (sym same) (λ _.
-        let at : IsAsked old exchange = now_at (protocol.PageRequest exchange) e is in record {
-          at = at.at;
+    one_more (upgrades e origins users from accounts up) = subst Stands (sym up.same) (λ _.
+        let at : IsAsked old up.exchange = now_at (protocol.PageRequest up.exchange) e up.was in record {
+          begun = record start { accounts = accounts; who = up.who };
+          begins_as = record {
+            rooms = refl;
+            who = subst (λ w. SignsIn accounts up.after.user w up.who) (sym at.at.0) up.signs;
+          };
+          at = (refl, at.at.1);
           talk = at.talk;
           rest = at.rest;
           origins = origins;
-          request = exchange;
-          may = may;
+          users = users;
+          from = from;
+          request = up.exchange;
+          may = up.may;
           came_from = at.came_from;
           unread = at.unread;
           sent = at.sent;
@@ -452,24 +497,30 @@ module _ (start : Place) (gives got : List ℕ) where
     one_more (opens e exchange is same) = subst Stands (sym same) (λ _.
         let at : IsOpening old exchange = now_at (protocol.Upgrading exchange) e is in record {
           origins = at.origins;
+          users = at.users;
+          from = at.from;
           request = at.request;
           after = exchange;
           may = at.may;
+          begun = at.begun;
+          begins_as = at.begins_as;
           later = [];
           rest = at.rest;
           came_from = at.came_from;
           unread = at.unread;
           texts = [];
           items = [];
-          place = start;
+          place = at.begun;
           at = at.at;
-          course = subst (Course CallsPlace Apart start (fresh exchange.input) [] [] [] [] start
+          course = subst (Course CallsPlace Apart at.begun (fresh exchange.input) [] [] [] [] at.begun
               (fresh exchange.input)) (sym at.talk) begins;
           sent = [];
           written = at.sent ∙ ap Some (sym (append-nil got));
           all = sym (append-nil exchange.output);
         })
-    one_more (closes e pages exchange after status is page same) =
+    one_more (closes e pages users from exchange after status is page same) =
+        ended Ends (ap (λ (b : Board). b.stage) same) not_ends
+    one_more (tells_user e users from accounts replica exchange after is asks page told same) =
         ended Ends (ap (λ (b : Board). b.stage) same) not_ends
     one_more (refuses e is page same) = ended Ends (ap (λ (b : Board). b.stage) same) not_ends
     one_more (tells not replied none tale is (out, rest, appends, parts, over, left)) = ended Over over not_over
@@ -495,9 +546,13 @@ socket_turn_law begun now gives got start socket connects at leads talks is =
     let end : IsOpen start gives got now socket =
     subst (λ p. At start gives got p now) is (all_steps start gives got begun now first leads talks) in record {
       origins = end.origins;
+      users = end.users;
+      from = end.from;
       request = end.request;
       after = end.after;
       may = end.may;
+      begun = end.begun;
+      begins = end.begins_as;
       later = end.later;
       rest = end.rest;
       came = end.came_from;

@@ -7,3 +7,4 @@ pub mod Places
 pub mod Said
 pub mod Spoken
 pub mod Steps
+pub mod Users

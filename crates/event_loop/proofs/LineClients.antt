@@ -1,15 +1,15 @@
 -- A client of lines, after each of its steps.
-use Rattle.std.proofs.Common.{◌≡◌, ◌≢◌, inl, inr, ℕ, true, false, List, [], ◌++◌, take, drop, length, Some, Option}
+use Rattle.std.proofs.Common.{◌≡◌, ◌≢◌, inl, inr, ℕ, false, List, [], ◌++◌, take, drop, length, Some}
 use Rattle.std.proofs.Common.{refl, sym, ap, ◌∙◌, subst, append-nil, append_assoc}
 use Rattle.std.proofs.lemmas.List.{drop_at, take_at}
 use Rattle.std.specs.Io.KnownBytes.{Appends, Consumes}
 use Rattle.conversation.specs.Laws.{Course, GaveAll, ServesApart}
 use Rattle.conversation.specs.Laws.Course.{begins, came, answered, was_long, written, passed}
-use Rattle.conversation.specs.Talk.{AnswersFirst, AnswersLast, Talk, TellsLong, heard, silent, unwritten}
+use Rattle.conversation.specs.Talk.{AnswersFirst, AnswersLast, TellsLong, heard, unwritten}
 use Rattle.conversation.proofs.Courses.{gave_all, gave_out}
 use Rattle.event_loop.specs.Party.{Apart, Board, CallsPlace, ComesTo, Goes, GoesOut, IsAt, IsRequest, IsStopped, IsTold, Place}
-use Rattle.event_loop.specs.Party.Goes.{stays, reads, answers, long, last, ends, hears, says, writes, upgrades, opens, closes, refuses, tells, stops}
-use Rattle.event_loop.specs.Turns.{Answers, Connects, IsServed, Leads, LinesTurnLaw}
+use Rattle.event_loop.specs.Party.Goes.{stays, reads, answers, long, last, ends, hears, says, writes, upgrades, opens, closes, tells_user, refuses, tells, stops}
+use Rattle.event_loop.specs.Turns.{IsServed, Leads, LinesTurnLaw}
 use Rattle.event_loop.specs.Turns.Leads.{begins as at_first, goes}
 use Rattle.event_loop.specs.declared.party.Stage.{Stage}
 use Rattle.event_loop.specs.declared.party.Stage.TheVariants.{Talks, Ends, Over}
@@ -312,9 +312,10 @@ module _ (start : Place) (gives got : List ℕ) where
     one_more (says not socket is line unfed replies same) =
         elim (no_socket old.protocol socket (spoken_at old.stage not stands) is) [ ]
     one_more (writes not goes_out) = has_written not goes_out
-    one_more (upgrades e origins exchange after is may same) = elim (no_page e exchange is) [ ]
+    one_more (upgrades e origins users from accounts up) = elim (no_page e up.exchange up.was) [ ]
     one_more (opens e exchange is same) = elim (no_upgrade e exchange is) [ ]
-    one_more (closes e pages exchange after status is page same) = elim (no_page e exchange is) [ ]
+    one_more (closes e pages users from exchange after status is page same) = elim (no_page e exchange is) [ ]
+    one_more (tells_user e users from accounts replica exchange after is asks page told same) = elim (no_page e exchange is) [ ]
     one_more (refuses e is page same) = elim (no_request e is) [ ]
     one_more (tells not replied none tale is told) = has_told not tale told
     one_more (stops stopped) = has_stopped stopped

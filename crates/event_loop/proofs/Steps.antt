@@ -1,5 +1,5 @@
 -- The steps of a client, from what its parts did.
-use Rattle.std.proofs.Common.{◌≡◌, ◌≢◌, ◌⊎◌, ◌≤◌, inl, inr, ℕ, Bool, true, false, List, [], ◌∷◌, ◌++◌, drop, length, Option, Result, Ok, Err, OnErr, OnOk, is_err, refl, ap, ◌∙◌, sym, subst}
+use Rattle.std.proofs.Common.{◌≡◌, ◌≢◌, ◌⊎◌, ◌≤◌, inl, inr, ℕ, Bool, true, false, List, [], ◌++◌, drop, length, Option, Result, Ok, Err, OnErr, OnOk, is_err, refl, ap, ◌∙◌, sym, subst}
 use Rattle.std.proofs.Common.{None, Some, take, append-nil, take-append-drop}
 use Rattle.std.proofs.lemmas.List.{drop-append-le}
 use Rattle.std.specs.Io.KnownBytes.{Appends, Keeps, WriteAppends}
@@ -9,18 +9,24 @@ use Rattle.conversation.specs.ThreadSession.{CallsRow, lent}
 use Rattle.conversation.specs.declared.conversation.LineOutcome.{LineOutcome}
 use Rattle.conversation.specs.declared.conversation.LineOutcome.TheVariants.{Answered, Waits, Full, Cut}
 use Rattle.conversation.specs.declared.shared.Shared.{Shared}
+use Rattle.sessions.specs.Accounts.{Accounts}
 use Rattle.sessions.specs.Session.{Session}
 use Rattle.wire_lines.specs.declared.fault.Fault.{Fault}
 use Rattle.web_wire.specs.Messages.{message_bytes}
-use Rattle.web_wire.specs.PageRequests.{Exchange, OpensSocket, ServesPage}
+use Rattle.web_wire.specs.PageRequests.{AsksUser, Exchange, OpensSocket, ServesPage}
 use Rattle.web_wire.specs.declared.page.Page.{Page}
+use Rattle.web_wire.specs.declared.page.UserHeader.{UserHeader}
+use Rattle.web_wire.specs.declared.page_request.Next.{Next}
+use Rattle.web_wire.specs.declared.page_request.Next.TheVariants as then
 use Rattle.web_wire.specs.Socket.{GoesOn, Socket, fed}
 use Rattle.web_wire.specs.declared.frames.NextMessage.{NextMessage}
 use Rattle.web_wire.specs.declared.frames.NextMessage.TheVariants as next
+use Rattle.event_loop.specs.Answered.{Told, Upgraded}
 use Rattle.event_loop.specs.Messages.{GivesTo, SaysFirst}
-use Rattle.event_loop.specs.Party.{Board, ComesTo, Goes, Hears, IsFarewell, IsStopped, IsTold, tale_of}
-use Rattle.event_loop.specs.Party.Goes.{stays, answers, long, last, ends, hears, says, reads, upgrades, closes, tells, stops}
+use Rattle.event_loop.specs.Party.{Board, ComesTo, Goes, IsFarewell, IsRequest, IsStopped, IsTold, Upgrades, tale_of}
+use Rattle.event_loop.specs.Party.Goes.{stays, answers, long, last, ends, hears, says, reads, upgrades, closes, tells_user, refuses, tells, stops}
 use Rattle.event_loop.specs.Transfers.{Gives}
+use Rattle.event_loop.specs.Users.{SignsIn}
 use Rattle.event_loop.specs.declared.party.Stage.TheVariants.{Talks, Ends, Over}
 use Rattle.event_loop.specs.declared.accept.TheConstants.{FULL_PAGE}
 use Rattle.event_loop.specs.declared.protocol.Protocol.{Protocol}
@@ -137,7 +143,8 @@ reads_lines old talk left e is kept (bytes, consumes, grown) got still =
 
 -- bytes of a request
 pub reads_request : (old : Board) (exchange after : Exchange) (left : Option (List ℕ)) → old.stage ≡ Talks
-    → old.protocol ≡ protocol.PageRequest exchange → (after ≡ exchange) ⊎ (after.output ≡ exchange.output)
+    → old.protocol ≡ protocol.PageRequest exchange
+    → (after ≡ exchange) ⊎ (after ≡ record exchange { input = after.input })
     → Gives old.unread exchange.input left after.input → (got : Option (List ℕ)) → got ≡ old.written
     → Goes old (record old { protocol = protocol.PageRequest after; unread = left; written = got })
 reads_request old exchange after left e is kept (bytes, consumes, grown) got still =
@@ -147,25 +154,18 @@ reads_request old exchange after left e is kept (bytes, consumes, grown) got sti
       unread = left;
       written = got;
     })) (sym is)
-    (ap (λ l. record old {
-      protocol = protocol.PageRequest (record { input = l; output = after.output });
-      unread = left;
-      written = got;
-    }) grown
-    ∙ ap (λ l. record old {
-      protocol = protocol.PageRequest (record { input = exchange.input ++ bytes; output = l });
-      unread = left;
-      written = got;
-    }) (same kept)
+    (ap (λ x. record old { protocol = protocol.PageRequest x; unread = left; written = got })
+    (same kept ∙ ap (λ l. record exchange { input = l }) grown)
     ∙ ap (λ w. record old {
-      protocol = protocol.PageRequest (record { input = exchange.input ++ bytes; output = exchange.output });
+      protocol = protocol.PageRequest (record exchange { input = exchange.input ++ bytes });
       unread = left;
       written = w;
     }) still))
   where
-    same : (after ≡ exchange) ⊎ (after.output ≡ exchange.output) → after.output ≡ exchange.output
-    same (inl still) = ap (λ (x : Exchange). x.output) still
-    same (inr so) = so
+    same : (after ≡ exchange) ⊎ (after ≡ record exchange { input = after.input })
+        → after ≡ record exchange { input = after.input }
+    same (inl still) = still ∙ ap (λ (x : Exchange). record exchange { input = x.input }) (sym still)
+    same (inr moved) = moved
 
 -- bytes of a socket
 pub reads_socket : (old : Board) (socket after : Socket) (left : Option (List ℕ)) → old.stage ≡ Talks
@@ -186,25 +186,85 @@ reads_socket old socket after left e is kept (bytes, consumes, grown) got still 
     same (inr moved) = moved
 
 -- a request was answered
-pub upgraded : (old mid new : Board) (origins : List (List ℕ)) (exchange after : Exchange) → old.stage ≡ Talks
-    → old.protocol ≡ protocol.PageRequest exchange → OpensSocket origins exchange after
-    → mid ≡ record old { protocol = protocol.PageRequest after }
-    → ((e : Exchange) → mid.protocol ≡ protocol.PageRequest e → new ≡ record mid { protocol = protocol.Upgrading e })
-    → Goes old new
-upgraded old mid new origins exchange after e is may so turns =
-    upgrades e origins exchange after is may
-    (turns after (ap (λ (b : Board). b.protocol) so) ∙ ap (λ (b : Board). record b { protocol = protocol.Upgrading after }) so)
+module _ (old mid new : Board) (exchange after : Exchange) (e : old.stage ≡ Talks)
+    (is : old.protocol ≡ protocol.PageRequest exchange) (so : mid ≡ record old { protocol = protocol.PageRequest after }) where
+  now_after : mid.protocol ≡ protocol.PageRequest after
+  now_after = ap (λ (b : Board). b.protocol) so
 
-pub closed_with : (old mid new : Board) (pages : List Page) (status : ℕ) (exchange after : Exchange) → old.stage ≡ Talks
-    → old.protocol ≡ protocol.PageRequest exchange → (status ≡ 200 → ServesPage pages exchange after)
-    → mid ≡ record old { protocol = protocol.PageRequest after }
-    → ((e : Exchange) → mid.protocol ≡ protocol.PageRequest e
-    → new ≡ record mid { stage = Ends; protocol = protocol.Over; outbox = e.output })
-    → Goes old new
-closed_with old mid new pages status exchange after e is page so turns =
-    closes e pages exchange after status is page
-    (turns after (ap (λ (b : Board). b.protocol) so)
-    ∙ ap (λ (b : Board). record b { stage = Ends; protocol = protocol.Over; outbox = after.output }) so)
+  pub closed_with : (pages : List Page) (users : Option UserHeader) (from status : ℕ)
+      → (status ≡ 200 → ServesPage pages users from exchange after)
+      → ((e : Exchange) → mid.protocol ≡ protocol.PageRequest e
+      → new ≡ record mid { stage = Ends; protocol = protocol.Over; outbox = e.output })
+      → Goes old new
+  closed_with pages users from status page turns =
+      closes e pages users from exchange after status is page
+      (turns after now_after
+      ∙ ap (λ (b : Board). record b { stage = Ends; protocol = protocol.Over; outbox = after.output }) so)
+
+  -- the page is that of a request which is not answered yet
+  ended_as : (page : List ℕ) → new ≡ record mid { stage = Ends; protocol = protocol.Over; outbox = page }
+      → new ≡ record old { stage = Ends; protocol = protocol.Over; outbox = page }
+  ended_as page same = same ∙ ap (λ (b : Board). record b { stage = Ends; protocol = protocol.Over; outbox = page }) so
+
+  stopped_as : IsStopped mid new → IsStopped old new
+  stopped_as stopped = (stopped.0, stopped.1 ∙ ap (λ (b : Board). b.written) so)
+
+  -- a handshake
+  module _ (origins : List (List ℕ)) (users : Option UserHeader) (from : ℕ) (accounts : Accounts)
+      (may : OpensSocket origins users from exchange after) where
+    signed_in : (result : Result Next AllocError) → result ≡ Ok then.Socket → Upgraded accounts after result mid new
+        → Upgrades origins users from accounts old new
+    signed_in result is_socket turned = found (subst (λ r. Upgraded accounts after r mid new) is_socket turned)
+      where
+        found : Upgraded accounts after (Ok then.Socket) mid new → Upgrades origins users from accounts old new
+        found (who, signs, same) = record {
+          exchange = exchange;
+          after = after;
+          was = is;
+          may = may;
+          who = who;
+          signs = subst (λ (b : Board). SignsIn accounts after.user b.session.who who) so signs;
+          same = same ∙ ap (λ (b : Board). record b {
+            protocol = protocol.Upgrading after;
+            session = record b.session { who = who };
+          }) so;
+        }
+
+    pub upgraded : (result : Result Next AllocError) → ((x : Exchange) → mid.protocol ≡ protocol.PageRequest x
+        → Upgraded accounts x result mid new) → result ≡ Ok then.Socket → Upgrades origins users from accounts old new
+    upgraded result turns is_socket = signed_in result is_socket (turns after now_after)
+
+    pub upgrades_or_ends : (result : Result Next AllocError) → ((x : Exchange) → mid.protocol ≡ protocol.PageRequest x
+        → Upgraded accounts x result mid new) → Goes old new
+    upgrades_or_ends result turns = step result (turns after now_after)
+      where
+        step : (r : Result Next AllocError) → Upgraded accounts after r mid new → Goes old new
+        step (Ok then.Socket) turned = upgrades e origins users from accounts (signed_in (Ok then.Socket) refl turned)
+        step (Ok (then.Close status)) (page, same) =
+            refuses e (subst IsRequest (sym is) tt) page (ended_as page same)
+        step (Ok then.Read) turned = elim turned [ ]
+        step (Ok then.User) turned = elim turned [ ]
+        step (Err error) stopped = stops (stopped_as stopped)
+
+  -- the question who the user is
+  pub tells_or_ends : (users : Option UserHeader) (from : ℕ) (accounts : Accounts) (replica : ℕ) → AsksUser users from exchange after
+      → (result : Result Next AllocError) → ((x : Exchange) → mid.protocol ≡ protocol.PageRequest x
+      → Told accounts replica x result mid new) → Goes old new
+  tells_or_ends users from accounts replica asks result turns = step result (turns after now_after)
+    where
+      step : (r : Result Next AllocError) → Told accounts replica after r mid new → Goes old new
+      step (Ok (then.Close status)) (page, tells_it, same) =
+          tells_user e users from accounts replica exchange after is asks page tells_it (ended_as page same)
+      step (Ok then.Read) told = elim told [ ]
+      step (Ok then.Socket) told = elim told [ ]
+      step (Ok then.User) told = elim told [ ]
+      step (Err error) stopped = stops (stopped_as stopped)
+
+  pub never_opens : (accounts : Accounts) (replica : ℕ) (result : Result Next AllocError)
+      → ((x : Exchange) → mid.protocol ≡ protocol.PageRequest x → Told accounts replica x result mid new)
+      → result ≡ Ok then.Socket → ⊥
+  never_opens accounts replica result turns is_socket =
+      subst (λ r. Told accounts replica after r mid new) is_socket (turns after now_after)
 
 -- what was written at the end
 module _ {E : Type 0} (tale : List ℕ) (outcome : Result ℕ E) where

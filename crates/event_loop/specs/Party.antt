@@ -11,14 +11,16 @@ use Rattle.sessions.specs.declared.session.Room.{Room}
 use Rattle.shared_pads.specs.declared.seat.Seat.{Seat}
 use Rattle.web_wire.specs.Course.{farewell}
 use Rattle.web_wire.specs.Messages.{is_feed, is_line, message_bytes, with_feed}
-use Rattle.web_wire.specs.PageRequests.{Exchange, OpensSocket, ServesPage}
+use Rattle.web_wire.specs.PageRequests.{AsksUser, Exchange, OpensSocket, ServesPage}
 use Rattle.web_wire.specs.Socket.{Comes, Socket, fed, fresh}
 use Rattle.web_wire.specs.declared.page.Page.{Page}
+use Rattle.web_wire.specs.declared.page.UserHeader.{UserHeader}
 use Rattle.websocket.specs.declared.protocol.frame.coding.CloseCode.TheVariants.{Away}
 use Rattle.wire_json.specs.Replies.{line_of}
 use Rattle.conversation.specs.PadTable.{RowAsked}
 use Rattle.conversation.specs.Session.{Answer}
 use Rattle.conversation.specs.Talk.{AnswersFirst, AnswersLast, Talk, TellsLong, heard, unwritten}
+use Rattle.event_loop.specs.Users.{SignsIn, TellsUser}
 use Rattle.event_loop.specs.declared.accept.TheConstants.{FULL_PAGE}
 use Rattle.event_loop.specs.declared.party.Stage.{Stage}
 use Rattle.event_loop.specs.declared.party.Stage.TheVariants.{Talks, Ends, Over}
@@ -66,8 +68,7 @@ ComesTo protocol.Lines bytes old new = new
     ≡ record old { unread = new.unread; talk = heard old.talk bytes }
 ComesTo (protocol.PageRequest exchange) bytes old new = new ≡ record old {
   unread = new.unread;
-  protocol = protocol.PageRequest
-      (record { input = exchange.input ++ bytes; output = exchange.output });
+  protocol = protocol.PageRequest (record exchange { input = exchange.input ++ bytes });
 }
 ComesTo (protocol.Upgrading exchange) bytes old new = ⊥
 ComesTo (protocol.Socket socket) bytes old new = new
@@ -138,6 +139,21 @@ IsTold tale old new = (out rest : List ℕ) × Appends old.written new.written o
 abbrev pub IsStopped : Board → Board → Type 0
 IsStopped old new = (new.stage ≡ Over) × (new.written ≡ old.written)
 
+-- a handshake from this address was answered, by which a page may open the socket, and from then on the session is that of
+-- the author whom the accounts give for the user that the handshake names
+pub record Upgrades (origins : List (List ℕ)) (users : Option UserHeader) (from : ℕ) (accounts : Accounts)
+    (old new : Board) : Type 0 where
+  pub exchange : Exchange
+  pub after : Exchange
+  pub was : old.protocol ≡ protocol.PageRequest exchange
+  pub may : OpensSocket origins users from exchange after
+  pub who : Who
+  pub signs : SignsIn accounts after.user old.session.who who
+  pub same : new ≡ record old {
+    protocol = protocol.Upgrading after;
+    session = record old.session { who = who };
+  }
+
 -- one step of a client
 pub data Goes (old new : Board) : Type 0 where
   -- nothing happened
@@ -178,10 +194,9 @@ pub data Goes (old new : Board) : Type 0 where
       } → Goes old new
   -- bytes went to the socket
   writes : old.stage ≢ Over → GoesOut old.protocol old new → Goes old new
-  -- a handshake was answered; a page may open the socket
-  upgrades : old.stage ≡ Talks → (origins : List (List ℕ)) (exchange after : Exchange)
-      → old.protocol ≡ protocol.PageRequest exchange → OpensSocket origins exchange after
-      → new ≡ record old { protocol = protocol.Upgrading after } → Goes old new
+  -- a handshake was answered; a page may open the socket, and its user is the session's author
+  upgrades : old.stage ≡ Talks → (origins : List (List ℕ)) (users : Option UserHeader) (from : ℕ)
+      (accounts : Accounts) → Upgrades origins users from accounts old new → Goes old new
   -- the socket is open: the bytes behind the request are its first ones
   opens : old.stage ≡ Talks → (exchange : Exchange) → old.protocol ≡ protocol.Upgrading exchange
       → new ≡ record old {
@@ -189,12 +204,18 @@ pub data Goes (old new : Board) : Type 0 where
         outbox = exchange.output;
       } → Goes old new
   -- a request was answered, with a page only if it asks for this page, and nothing more is read
-  closes : old.stage ≡ Talks → (pages : List Page) (exchange after : Exchange) (status : ℕ)
-      → old.protocol ≡ protocol.PageRequest exchange
-      → (status ≡ 200 → ServesPage pages exchange after)
+  closes : old.stage ≡ Talks → (pages : List Page) (users : Option UserHeader) (from : ℕ)
+      (exchange after : Exchange) (status : ℕ) → old.protocol ≡ protocol.PageRequest exchange
+      → (status ≡ 200 → ServesPage pages users from exchange after)
       → new ≡ record old { stage = Ends; protocol = protocol.Over; outbox = after.output }
       → Goes old new
-  -- a request was refused because the server is full, and nothing more is read
+  -- it was answered who the user of a request is, and nothing more is read
+  tells_user : old.stage ≡ Talks → (users : Option UserHeader) (from : ℕ) (accounts : Accounts)
+      (replica : ℕ) (exchange after : Exchange) → old.protocol ≡ protocol.PageRequest exchange
+      → AsksUser users from exchange after → (page : List ℕ)
+      → TellsUser accounts replica after.user after.output page
+      → new ≡ record old { stage = Ends; protocol = protocol.Over; outbox = page } → Goes old new
+  -- a request was refused because the server is full, or its user is no author, and nothing more is read
   refuses : old.stage ≡ Talks → IsRequest old.protocol → (page : List ℕ)
       → new ≡ record old { stage = Ends; protocol = protocol.Over; outbox = page }
       → Goes old new

@@ -1,14 +1,15 @@
 -- What a client's socket gave and got, whatever a worker did with the client.
-use Rattle.std.specs.Prelude.{◌≡◌, ◌≢◌, ◌⊎◌, ℕ, List, [], ◌∷◌, ◌++◌, Some, Option}
-use Rattle.sessions.specs.Session.{Session}
+use Rattle.std.specs.Prelude.{◌≡◌, ◌≢◌, ◌⊎◌, ℕ, List, [], ◌∷◌, ◌++◌, None, Some, Option}
 use Rattle.web_wire.specs.Messages.{message_bytes, with_feed}
 use Rattle.web_wire.specs.PageRequests.{Exchange, OpensSocket}
 use Rattle.web_wire.specs.Socket.{Socket, fresh}
-use Rattle.conversation.specs.Laws.{Course, GaveAll, GaveOut, ServesApart}
+use Rattle.web_wire.specs.declared.page.UserHeader.{UserHeader}
+use Rattle.conversation.specs.Laws.{GaveAll, GaveOut, ServesApart}
 use Rattle.conversation.specs.Talk.{Talk, silent}
 use Rattle.event_loop.specs.Laws.{Course as BrowserCourse}
 use Rattle.event_loop.specs.Party.{Apart, Board, CallsPlace, Goes, IsAt, Place}
-use Rattle.event_loop.specs.declared.party.Stage.TheVariants.{Talks, Ends, Over}
+use Rattle.event_loop.specs.Users.{SignsIn}
+use Rattle.event_loop.specs.declared.party.Stage.TheVariants.{Talks, Over}
 use Rattle.event_loop.specs.declared.protocol.Protocol.{Protocol}
 use Rattle.event_loop.specs.declared.protocol.Protocol.TheVariants as protocol
 
@@ -34,7 +35,7 @@ Answers start bytes out place talk =
     ⊎ GaveAll (ServesApart CallsPlace Apart) start bytes out place talk
 
 -- what a client of lines gave and got: its socket lost the bytes that came, and got replies of its session behind what it
--- had; once it is over, perhaps a last word, and nothing after it
+-- had; once it is over, perhaps more bytes, whatever they are
 pub record IsServed (start : Place) (gives got : List ℕ) (now : Board) : Type 0 where
   pub bytes : List ℕ
   pub rest : List ℕ
@@ -70,14 +71,25 @@ replies_of [] = []
 replies_of (frames put ∷ items) = replies_of items
 replies_of (reply line ∷ items) = with_feed line ++ replies_of items
 
+-- a session begins at a place as at another, but with the author whom the accounts of the place give for the user that the
+-- request of its socket names, if it names one
+pub record BeginsAs (user : Option (List ℕ)) (start begun : Place) : Type 0 where
+  pub rooms : begun.rooms ≡ start.rooms
+  pub who : SignsIn begun.accounts user start.who begun.who
+
 -- what a browser's socket gave and got: a request that may open a socket, and its response; then frames, whose messages
 -- are the lines of a conversation, and whole frames of its replies and of answers to frames, in some order. What is not
--- written yet waits in the outbox
+-- written yet waits in the outbox. The conversation is that of the user whom the request names, or begins as it would
+-- without one
 pub record IsSocket (start : Place) (gives got : List ℕ) (now : Board) : Type 0 where
   pub origins : List (List ℕ)
+  pub users : Option UserHeader
+  pub from : ℕ
   pub request : Exchange
   pub after : Exchange
-  pub may : OpensSocket origins request after
+  pub may : OpensSocket origins users from request after
+  pub begun : Place
+  pub begins : BeginsAs after.user start begun
   pub later : List ℕ
   pub rest : List ℕ
   pub came : gives ≡ request.input ++ (later ++ rest)
@@ -87,7 +99,7 @@ pub record IsSocket (start : Place) (gives got : List ℕ) (now : Board) : Type 
   pub texts : List (List ℕ)
   pub items : List Item
   pub place : Place
-  pub course : BrowserCourse CallsPlace Apart start (fresh after.input) later texts
+  pub course : BrowserCourse CallsPlace Apart begun (fresh after.input) later texts
       (frames_of items) (replies_of items) place socket now.talk
   pub sent : List ℕ
   pub written : now.written ≡ Some (got ++ sent)
@@ -99,10 +111,10 @@ LinesTurnLaw = (begun now : Board) (gives got : List ℕ) (start : Place)
     → Connects protocol.Lines gives got begun → IsAt begun.session start → Leads begun now
     → IsServed start gives got now
 
--- whatever is done with a browser, as long as it speaks by a socket and is not over, its socket gave and got the course of
--- a browser
+-- whatever is done with a browser, as long as it speaks by a socket and its messages are still answered, its socket gave
+-- and got the course of a browser
 abbrev pub SocketTurnLaw : Type 0
 SocketTurnLaw = (begun now : Board) (gives got : List ℕ) (start : Place) (socket : Socket)
-    → Connects (protocol.PageRequest (record { input = []; output = [] })) gives got begun
+    → Connects (protocol.PageRequest (record { input = []; output = []; user = None })) gives got begun
     → IsAt begun.session start → Leads begun now → now.stage ≡ Talks
     → now.protocol ≡ protocol.Socket socket → IsSocket start gives got now

@@ -1,11 +1,10 @@
 //! Accepts connections and hands them to the workers.
-use crate::arrivals::{Arrival, Entrance};
+use crate::arrivals::{Arrival, ClientAddress, Entrance};
 use crate::clients::WAKING;
 use crate::hub::Hub;
 use crate::limits::{Limits, PAGE_REQUESTS};
 use crate::rarely::Rarely;
 use crate::ticker::Ticker;
-use admission::key_of;
 use log::warn;
 use mio::net::{TcpListener, TcpStream};
 use mio::{Events, Interest, Poll, Token, Waker};
@@ -81,7 +80,7 @@ fn listen_at(poll: &Poll, listener: net::TcpListener, token: Token) -> io::Resul
 }
 
 /// The outcome of a round of accepting.
-#[derive(Clone, Copy, Debug, PartialEq, Eq)]
+#[derive(Clone, Copy, PartialEq, Eq)]
 enum Round {
     /// No more connections wait.
     Done,
@@ -173,8 +172,8 @@ fn accept_some<R: Clock + Wait + Eprint>(
         match listener.accept() {
             Ok((stream, from)) => {
                 count.accepted = count.accepted.saturating_add(1);
-                let address = key_of(from.ip());
-                take(rt, stream, address, entrance, hub, limits, count);
+                let source = ClientAddress::new(from.ip());
+                take(rt, stream, source, entrance, hub, limits, count);
             }
             Err(error) => match error.kind() {
                 ErrorKind::WouldBlock => return Round::Done,
@@ -202,14 +201,14 @@ fn accept_some<R: Clock + Wait + Eprint>(
 fn take<R: Clock + Wait + Eprint>(
     rt: &R,
     mut stream: TcpStream,
-    address: u128,
+    source: ClientAddress,
     entrance: Entrance,
     hub: &Hub,
     limits: Limits,
     count: &mut AcceptCount,
 ) {
     let number = count.accepted;
-    let Ok(full) = what_is_full(rt, address, entrance, hub, limits) else {
+    let Ok(full) = what_is_full(rt, source.key, entrance, hub, limits) else {
         warn!(ServerLog(rt); "connection {number} is not served: out of memory");
         return;
     };
@@ -237,7 +236,7 @@ fn take<R: Clock + Wait + Eprint>(
         number,
         stream,
         entrance,
-        address,
+        source,
     };
     if hub.send(rt, home, arrival).is_some() {
         warn!(ServerLog(rt); "connection {number} is not served: out of memory");
@@ -245,7 +244,7 @@ fn take<R: Clock + Wait + Eprint>(
             hub.lobby().leave();
         }
         if limits.per_address.is_some() {
-            hub.lobby().disconnect(rt, address);
+            hub.lobby().disconnect(rt, source.key);
         }
         hub.leave(home, connected);
     }

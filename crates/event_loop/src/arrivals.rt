@@ -1,14 +1,20 @@
 //! What is sent to a worker: clients, and new accounts.
+ghost use Rattle.std.specs.Prelude.{◌≡◌, ◌+◌};
+ghost use Rattle.std.specs.Net.Addr.{MatchIp, ipv4_bits, ipv6_bits};
+
 use crate::client::Client;
 use crate::hub::Connected;
 use crate::protocol::Protocol;
+use admission::key_of;
 use mio::net::TcpStream;
 use sessions::Accounts;
 use std::alloc::Global;
-use web_wire::PageRequest;
+use std::net::IpAddr;
+use std::sync::Arc;
+use web_wire::{PageRequest, address_number};
 
 /// The listener at which a connection was accepted.
-#[derive(Clone, Copy, Debug, PartialEq, Eq)]
+#[derive(Clone, Copy, PartialEq, Eq)]
 pub enum Entrance {
     /// The listener for clients that speak lines.
     Lines,
@@ -34,6 +40,28 @@ impl Entrance {
     }
 }
 
+/// Where a connection comes from.
+#[derive(Clone, Copy)]
+pub struct ClientAddress {
+    /// The number of its address.
+    pub number: u128,
+    /// The key of its address, by which connections and wrong tokens are counted.
+    pub key: u128,
+}
+
+impl ClientAddress {
+    /// Where a connection from an address comes from. The number is the one that is compared with those of proxies.
+    pub fn new(address: IpAddr) -> ClientAddress
+        ensures { MatchIp address (λ own. result.number ≡ 0xFFFF_0000_0000 + ipv4_bits own)
+            (λ own. result.number ≡ ipv6_bits own) }
+    {
+        ClientAddress {
+            number: address_number(address),
+            key: key_of(address),
+        }
+    }
+}
+
 /// What is sent to a worker.
 #[derive(Drop)]
 pub enum Arrival {
@@ -42,11 +70,10 @@ pub enum Arrival {
         number: u64,
         stream: TcpStream,
         entrance: Entrance,
-        /// The key of the address that it comes from.
-        address: u128,
+        source: ClientAddress,
     },
     /// A client that moves from another worker.
     Moved(Client),
-    /// The accounts that may log in from now on.
-    Accounts(Accounts),
+    /// The accounts that may log in from now on, which all workers share.
+    Accounts(Arc<Accounts, Global>),
 }

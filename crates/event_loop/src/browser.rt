@@ -5,25 +5,32 @@ use crate::hub::Hub;
 use crate::limits::Limits;
 use crate::lobby::Lobby;
 use crate::newcomer::Newcomer;
+use crate::request_user::Authors;
 use crate::serve::ClientStep;
 use crate::settle::Settle;
 use crate::transfer::Transfer;
+use crate::work::Service;
 use crate::written::say_all;
+use conversation::Gate;
+use pad_model::Sequence;
 use std::alloc::Global;
-use web_wire::{Next, NextMessage, Site, kept_page};
+use std::sync::Wait;
+use web_wire::{Next, NextMessage, kept_page};
 use wire_lines::Fault;
 
 impl Client {
     /// Reads a request, and answers it once it is complete.
-    pub(crate) fn serve_page_request<T: Settle>(
+    pub(crate) fn serve_page_request<S, R, G, T>(
         &mut self,
-        alloc: Global,
-        site: Site<'_>,
-        settle: &T,
-        hub: &Hub,
-        limits: Limits,
+        service: &Service<'_, S, R, G, T>,
         buffers: &mut Buffers,
-    ) -> ClientStep {
+    ) -> ClientStep
+    where
+        S: Sequence,
+        R: AllocGlobal + Wait,
+        G: Gate,
+        T: Settle,
+    {
         if self.phase == Phase::Ended {
             self.phase = Phase::Over;
         }
@@ -32,29 +39,38 @@ impl Client {
         }
         let chunk = buffers.chunk.as_mut_slice();
         match self.party.read(chunk) {
-            Ok(Transfer::Passed) => self.answer_request(alloc, site, settle, hub, limits),
+            Ok(Transfer::Passed) => self.answer_request(service),
             read => self.has_read(read),
         }
     }
 
     // Answers a request if it is complete. While there is no room for one more client, everything is refused; while as
     // many clients as may be have not logged in, only the socket is.
-    fn answer_request<T: Settle>(
-        &mut self,
-        alloc: Global,
-        site: Site<'_>,
-        settle: &T,
-        hub: &Hub,
-        limits: Limits,
-    ) -> ClientStep {
+    fn answer_request<S, R, G, T>(&mut self, service: &Service<'_, S, R, G, T>) -> ClientStep
+    where
+        S: Sequence,
+        R: AllocGlobal + Wait,
+        G: Gate,
+        T: Settle,
+    {
+        let (hub, limits, site) = (service.hub, service.limits, service.site);
+        let alloc = service.row.rt.alloc();
         if !hub.has_room(limits.clients) {
             return self.refuse_request(alloc);
         }
         let has_room = hub.lobby().has_room(limits.newcomers());
-        let kept = kept_page(settle.machines());
-        match self.party.answer_request(site, &kept, has_room) {
+        let kept = kept_page(service.settle.machines());
+        let authors = Authors {
+            accounts: service.row.accounts,
+            replica: service.row.replica,
+        };
+        let from = self.source.number;
+        match self
+            .party
+            .answer_request(alloc, site, &kept, has_room, from, authors)
+        {
             Ok(Next::Read) => ClientStep::Goes,
-            Ok(Next::Close(_)) => self.end_request(),
+            Ok(Next::Close(_) | Next::User) => self.end_request(),
             Ok(Next::Socket) if is_admitted(hub, limits) => self.open_socket(alloc),
             Ok(Next::Socket) => self.refuse_request(alloc),
             Err(_) => self.fail(Fault::Memory),

@@ -1,4 +1,5 @@
 //! One client of a worker: its socket, its conversation and its session.
+use crate::arrivals::ClientAddress;
 use crate::buffers::{Buffers, first_bytes};
 use crate::delay::{BAD_TOKEN, Delay, Wanted, pause_after};
 use crate::hub::Connected;
@@ -20,7 +21,7 @@ use std::{io, mem};
 use wire_lines::Fault;
 
 /// The state of a client's connection.
-#[derive(Clone, Copy, Debug, PartialEq, Eq)]
+#[derive(Clone, Copy, PartialEq, Eq)]
 pub enum Phase {
     /// More bytes may arrive.
     Open,
@@ -37,8 +38,7 @@ pub enum Phase {
 pub struct Client {
     pub(crate) number: u64,
     pub(crate) home: usize,
-    /// The key of the address that it comes from.
-    pub(crate) address: u128,
+    pub(crate) source: ClientAddress,
     /// Its socket, its conversation and its session.
     pub(crate) party: Party<TcpStream>,
     pub(crate) phase: Phase,
@@ -68,13 +68,13 @@ impl Client {
         home: usize,
         stream: TcpStream,
         protocol: Protocol,
-        address: u128,
+        source: ClientAddress,
     ) -> Client {
         let is_counted = protocol.connected() == Connected::Client;
         Client {
             number,
             home,
-            address,
+            source,
             party: Party::new(alloc, stream, protocol),
             phase: Phase::Open,
             readiness: Readiness::new(),
@@ -101,9 +101,14 @@ impl Client {
         self.home
     }
 
+    /// How many pads it has joined.
+    pub fn visits(&self) -> usize {
+        self.party.session().room_count()
+    }
+
     /// The key of the address that it comes from.
     pub fn address(&self) -> u128 {
-        self.address
+        self.source.key
     }
 
     /// Whether its connection counts as a client or as a request for a page.

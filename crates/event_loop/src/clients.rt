@@ -7,6 +7,7 @@ use mio::{Events, Interest, Registry, Token};
 use sessions::Accounts;
 use slab::Slab;
 use std::alloc::{AllocError, Global};
+use std::sync::Arc;
 use std::{io, mem};
 
 /// The token of a worker's waker.
@@ -33,7 +34,7 @@ pub struct Clients {
     due: u64,
     pub buffers: Buffers,
     /// The accounts that may log in from now on, if they have changed.
-    pub accounts: Option<Accounts>,
+    pub accounts: Option<Arc<Accounts, Global>>,
 }
 
 /// A client that could not be added, and why.

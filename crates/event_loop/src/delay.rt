@@ -26,7 +26,7 @@ const MOST_SECONDS: u64 = 60;
 const LONGEST_LINE: usize = 1_024;
 
 /// Whether a client is held back. Times are in milliseconds of a `Ticker`.
-#[derive(Clone, Copy, Debug, PartialEq, Eq)]
+#[derive(Clone, Copy)]
 pub enum Delay {
     /// It is not held back.
     Free,
@@ -63,7 +63,7 @@ impl Delay {
 }
 
 /// What a request waits for: a revision after `rev` of the pad at a cell, for at most this many seconds.
-#[derive(Clone, Copy, Debug, PartialEq, Eq)]
+#[derive(Clone, Copy)]
 pub struct Wanted {
     pub cell: u32,
     pub rev: u64,

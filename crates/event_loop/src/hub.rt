@@ -10,8 +10,8 @@ use mio::Waker;
 use server_counts::ClientCounts;
 use sessions::Accounts;
 use std::alloc::{AllocError, Global};
-use std::sync::Wait;
 use std::sync::atomic::{AtomicBool, AtomicU64, Ordering};
+use std::sync::{Arc, Wait};
 use std::time::Instant;
 
 /// How to reach a worker.
@@ -54,7 +54,7 @@ impl Door {
 }
 
 /// How a connection counts.
-#[derive(Clone, Copy, Debug, PartialEq, Eq)]
+#[derive(Clone, Copy, PartialEq, Eq)]
 pub enum Connected {
     /// A client, which speaks lines or has a socket.
     Client,
@@ -242,17 +242,14 @@ impl Hub {
         }
     }
 
-    /// Replaces the accounts of the workers. Each worker gets one of the copies, and takes it between two turns.
-    /// Sessions go on. A worker keeps its accounts if there is no copy left for it, or no memory to send it one.
-    pub fn replace_accounts<R: Wait>(&self, rt: &R, copies: Vec<Accounts>) {
-        for (place, accounts) in copies.into_iter().enumerate() {
-            let _told = self.send(rt, place, Arrival::Accounts(accounts));
+    /// Replaces the accounts of the workers, which share them. Each worker takes them between two turns. Sessions go on. A
+    /// worker keeps its accounts if there is no memory to send it the new ones.
+    pub fn replace_accounts<R: Wait>(&self, rt: &R, accounts: &Arc<Accounts, Global>) {
+        for place in 0..self.doors.len() {
+            if let Ok(shared) = Arc::try_clone(accounts) {
+                let _told = self.send(rt, place, Arrival::Accounts(shared));
+            }
         }
-    }
-
-    /// The number of workers.
-    pub fn workers(&self) -> usize {
-        self.doors.len()
     }
 
     /// Notes that no more connections are accepted.

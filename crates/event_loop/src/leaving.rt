@@ -128,6 +128,7 @@ where
         lobby.disconnect(service.row.rt, client.address());
     }
     let (home, connected) = (client.home(), client.connected());
+    service.hub.counts().note_visits(client.visits(), 0);
     client.end(pads);
     service.hub.leave(home, connected);
 }

@@ -1,7 +1,7 @@
 //! The limits of a server: how many clients it serves, for how long each may be silent, and what is logged of them.
 
 /// The limits that the command line sets.
-#[derive(Clone, Copy, Debug)]
+#[derive(Clone, Copy)]
 pub struct Limits {
     /// The number of connections after which no more are accepted. None: no limit.
     pub connections: Option<u32>,

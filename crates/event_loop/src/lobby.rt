@@ -10,7 +10,7 @@ use std::sync::{Mutex, Wait};
 pub const PATIENT: u32 = 3;
 
 /// How many wrong tokens there were, with the one that was noted.
-#[derive(Clone, Copy, Debug)]
+#[derive(Clone, Copy)]
 pub struct Noted {
     /// Those of its address, in the last ten minutes or so.
     pub of_address: u32,

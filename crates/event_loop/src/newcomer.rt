@@ -13,7 +13,7 @@ use std::alloc::Global;
 use std::sync::Wait;
 
 /// What is kept about a client because it has not logged in.
-#[derive(Clone, Copy, Debug)]
+#[derive(Clone, Copy)]
 pub struct Newcomer {
     /// Whether the lobby counts it.
     pub is_counted: bool,
@@ -144,7 +144,7 @@ impl Client {
     /// Holds back a log-in if its address has sent wrong tokens lately. Returns the time until which it does, or None
     /// if the line can be answered.
     pub fn knock<R: Wait>(&mut self, rt: &R, lobby: &Lobby, now: u64) -> Option<u64> {
-        let tokens = lobby.wrong_of(rt, self.address, now);
+        let tokens = lobby.wrong_of(rt, self.address(), now);
         if tokens < PATIENT {
             self.delay = Delay::Over;
             return None;

@@ -10,6 +10,7 @@ ghost use Rattle.wire_lines.specs.declared.buffer.FoundLine.TheVariants as found
 ghost use Rattle.pad_model.specs.declared.who.Who.TheVariants as Who;
 ghost use Rattle.event_loop.specs.Party.{Board, Goes, PutsOut};
 
+mod user;
 mod web;
 
 use crate::byte_socket::ByteSocket;
@@ -21,7 +22,7 @@ use conversation::{Conversation, Gate, LineOutcome, Shared};
 use mio::net::TcpStream;
 use mio::{Interest, Registry, Token};
 use pad_model::Sequence;
-use sessions::Session;
+use sessions::{Session, Stranger};
 use std::alloc::Global;
 use std::io;
 use std::marker::Model;
@@ -51,6 +52,8 @@ pub struct Party<K: ByteSocket> {
     outbox: Outbox,
     conversation: Conversation,
     session: Session,
+    /// Why the user of its request was no author, until the worker has noted it.
+    stranger: Option<Stranger>,
 }
 
 impl<K: ByteSocket> Model for Party<K> {
@@ -93,6 +96,7 @@ impl<K: ByteSocket> Party<K> {
             outbox: Outbox::new(alloc),
             conversation: Conversation::new(alloc),
             session: Session::new(alloc),
+            stranger: None,
         }
     }
 

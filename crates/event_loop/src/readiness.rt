@@ -9,7 +9,7 @@
 ghost use Rattle.std.specs.Prelude.{◌≡◌, ◌<◌, true, false};
 
 /// Whether a read of a socket may give something.
-#[derive(Clone, Copy, Debug)]
+#[derive(Clone, Copy)]
 pub struct Readiness {
     is_readable: bool,
     /// Whether the last read took all that had come.

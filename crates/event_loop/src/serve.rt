@@ -82,14 +82,7 @@ impl Client {
     {
         let alloc = service.row.rt.alloc();
         if self.connected() == Connected::PageRequest {
-            return self.serve_page_request(
-                alloc,
-                service.site,
-                service.settle,
-                service.hub,
-                service.limits,
-                buffers,
-            );
+            return self.serve_page_request(service, buffers);
         }
         if self.is_misplaced(service.hub, place) {
             self.moves = true;

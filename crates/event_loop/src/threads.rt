@@ -33,23 +33,46 @@ pub fn set_up<R: AllocGlobal + Net + Clock>(
     let mut doors = Vec::new(alloc);
     let mut workers = Vec::new(alloc);
     for seats in crew {
-        let (to, arrivals) = crossbeam_channel::unbounded(alloc)?;
-        let worker = Worker::new(rt, alloc, workers.len(), arrivals, seats)?;
-        let waker = Waker::new(worker.poll.registry(), WAKING)?;
-        doors.push(Door::new(alloc, to, waker, revisions.len())?)?;
+        let (door, worker) = make_worker(rt, workers.len(), seats, revisions.len())?;
+        doors.push(door)?;
         workers.push(worker)?;
     }
     let (acceptor, waker) = Acceptor::new(rt, alloc, lines, web)?;
+    Ok(SetUp {
+        hub: make_hub(rt, doors, waker, revisions)?,
+        acceptor,
+        workers,
+    })
+}
+
+// The worker at a place of the hub, with its seats, and how to reach it.
+fn make_worker<R: AllocGlobal + Net>(
+    rt: &R,
+    place: usize,
+    seats: Vec<Seat>,
+    cells: usize,
+) -> io::Result<(Door, Worker)> {
+    let alloc = rt.alloc();
+    let (to, arrivals) = crossbeam_channel::unbounded(alloc)?;
+    let worker = Worker::new(rt, alloc, place, arrivals, seats)?;
+    let waker = Waker::new(worker.poll.registry(), WAKING)?;
+    Ok((Door::new(alloc, to, waker, cells)?, worker))
+}
+
+// What the threads share, with these doors.
+fn make_hub<R: AllocGlobal + Clock>(
+    rt: &R,
+    doors: Vec<Door>,
+    acceptor: Waker,
+    revisions: &[u64],
+) -> io::Result<Hub> {
+    let alloc = rt.alloc();
     let mut counts = Vec::new(alloc);
     for revision in revisions {
         counts.push(AtomicU64::new(*revision))?;
     }
     let lobby = Lobby::new(alloc)?;
-    let began = Instant::now(rt).ok();
     let watched = ClientCounts::new(alloc)?;
-    Ok(SetUp {
-        hub: Hub::new(doors, waker, began, counts, lobby, watched),
-        acceptor,
-        workers,
-    })
+    let began = Instant::now(rt).ok();
+    Ok(Hub::new(doors, acceptor, began, counts, lobby, watched))
 }

@@ -3,7 +3,7 @@ use crate::limits::PATIENCE;
 use std::mem;
 
 /// The time limit that a client has exceeded.
-#[derive(Clone, Copy, Debug, PartialEq, Eq)]
+#[derive(Clone, Copy)]
 pub enum Late {
     /// It has not sent a line for too long.
     Silent,
@@ -17,7 +17,7 @@ pub enum Late {
 ///
 /// What happens between two checks sets a flag, and gets the time of the next check. So it needs no reading of the
 /// clock.
-#[derive(Clone, Copy, Debug)]
+#[derive(Clone, Copy)]
 pub struct Times {
     came: Option<u64>,
     asked: u64,

@@ -49,7 +49,7 @@ impl Intake for Frames {
 impl Intake for PageRequest {
     ghost waiting = { λ request. request.input };
 
-    ghost keeps = { λ old new. new.output ≡ old.output };
+    ghost keeps = { λ old new. new ≡ record old { input = new.input } };
 
     fn take(&mut self, bytes: &[u8]) -> Result<(), Fault> {
         Ok(self.feed(bytes)?)
@@ -70,7 +70,7 @@ pub enum Transfer {
 }
 
 /// Why a client can no longer be served.
-#[derive(Clone, Copy, Debug)]
+#[derive(Clone, Copy)]
 pub struct BrokenSocket {
     pub fault: Fault,
     /// The system's error, if the socket failed.

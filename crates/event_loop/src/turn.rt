@@ -1,5 +1,5 @@
 //! One turn of a worker.
-use crate::access::log_access;
+use crate::access::{log_access, log_taken};
 use crate::arrivals::Arrival;
 use crate::client::Client;
 use crate::clients::Clients;
@@ -18,6 +18,7 @@ use crossbeam_channel::TryRecvError;
 use log::warn;
 use pad_model::Sequence;
 use server_log::ServerLog;
+use sessions::Stranger;
 use std::io;
 use std::sync::Wait;
 use std::time::{Clock, Duration};
@@ -102,11 +103,11 @@ where
                     number,
                     stream,
                     entrance,
-                    address,
+                    source,
                 },
             ) => {
                 let protocol = entrance.protocol(rt.alloc());
-                Client::new(rt.alloc(), number, worker.place, stream, protocol, address)
+                Client::new(rt.alloc(), number, worker.place, stream, protocol, source)
             }
             Ok(Arrival::Moved(client)) => client,
             Ok(Arrival::Accounts(accounts)) => {
@@ -143,15 +144,20 @@ where
         let Some(client) = clients.all.get_mut(key) else {
             continue;
         };
-        let was_nobody = client.is_nobody();
+        let (was_nobody, visits) = (client.is_nobody(), client.visits());
+        let was_request = client.connected() == Connected::PageRequest;
         let until = match client.serve(service, place, pads, &mut clients.buffers) {
             ClientStep::Goes | ClientStep::Rests | ClientStep::Moves => None,
             ClientStep::Fails(claim) => note_failure(service, client, claim, ticker.look(rt)),
             ClientStep::Knocks => client.knock(rt, service.hub.lobby(), ticker.look(rt)),
             ClientStep::Waits(wanted) => Some(client.wait(ticker.look(rt), wanted)),
         };
+        service.hub.counts().note_visits(visits, client.visits());
+        if was_request {
+            note_stranger(service, client, ticker);
+        }
         if service.limits.logs_access && was_nobody {
-            log_access(rt, client);
+            log_access(rt, client, was_request);
         }
         clients.owes = clients.owes || client.owes();
         clients.owed.push(key)?;
@@ -161,6 +167,26 @@ where
     }
     clients.queue.clear();
     Ok(())
+}
+
+// Logs a user of the proxy who was refused because the name is somebody else's.
+fn note_stranger<S, R, G, T>(
+    service: &Service<'_, S, R, G, T>,
+    client: &mut Client,
+    ticker: &mut Ticker,
+)
+where
+    S: Sequence,
+    R: AllocGlobal + Clock + Wait + Eprint,
+    G: Gate,
+    T: Settle,
+{
+    let rt = service.row.rt;
+    if let Some(Stranger::Taken(name)) = client.party.take_stranger() {
+        if service.hub.may_report(ticker.look(rt)) {
+            log_taken(rt, client, &name);
+        }
+    }
 }
 
 // Notes a wrong token, and logs it once there were some. Returns the time until which its reply is held back, if it is: a

@@ -1,4 +1,7 @@
 //! A worker, which serves each of its clients whenever its socket is ready, until the server ends.
+ghost use Rattle.std.specs.Prelude.{◌≡◌};
+ghost use Rattle.std.specs.Arc.{arc_value};
+
 use crate::arrivals::Arrival;
 use crate::clients::Clients;
 use crate::hub::Hub;
@@ -16,7 +19,7 @@ use sessions::{Accounts, Session};
 use shared_pads::Seat;
 use std::alloc::Global;
 use std::net::Net;
-use std::sync::Wait;
+use std::sync::{Arc, Wait};
 use std::thread::Threads;
 use std::time::Clock;
 use std::{io, mem, thread};
@@ -100,14 +103,24 @@ where
         return;
     };
     service.hub.open(worker.place);
-    let mut accounts = None;
+    let mut accounts: Option<Arc<Accounts, Global>> = None;
     for _ in rt.forever() {
-        let known = accounts.as_ref().unwrap_or(service.row.accounts);
+        let known = match &accounts {
+            Some(shared) => known_by(shared),
+            None => service.row.accounts,
+        };
         accounts = serve_with(service, known, worker, &mut clients);
         if accounts.is_none() {
             return;
         }
     }
+}
+
+// The accounts that the workers share.
+fn known_by(shared: &Arc<Accounts, Global>) -> &Accounts
+    ensures { result.now ≡ arc_value shared.now }
+{
+    shared
 }
 
 // Serves clients with these accounts until they are replaced, and returns the new ones, or until the server ends.
@@ -116,7 +129,7 @@ fn serve_with<S, R, G, T>(
     accounts: &Accounts,
     worker: &mut Worker,
     clients: &mut Clients,
-) -> Option<Accounts>
+) -> Option<Arc<Accounts, Global>>
 where
     S: Sequence,
     R: AllocGlobal + Clock + Wait + Eprint,
@@ -162,7 +175,7 @@ fn take_turns<S, R, G, T>(
     worker: &mut Worker,
     clients: &mut Clients,
     pads: &mut Shared<'_, S, R, G>,
-) -> io::Result<Option<Accounts>>
+) -> io::Result<Option<Arc<Accounts, Global>>>
 where
     S: Sequence,
     R: AllocGlobal + Clock + Wait + Eprint,

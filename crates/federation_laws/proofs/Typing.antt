@@ -225,55 +225,55 @@ elsewhere log at text m now name e = absurd (no now name e)
     no now name e = cc
 
 insert_types : (owned : Option Owned) (own : ℕ) (author : List ℕ) (at : ℕ) (text : List ℕ) (log held : List Op)
-    (p : Presence) → IsHistory log →
-    TypedBy log at text (on_log (pad_with owned own log held p) (insert own author (length log) at text log))
-insert_types owned own author at text log held p h =
+    (p : Presence) (clock : ℕ) (times : List ℕ) → IsHistory log →
+    TypedBy log at text (on_log (pad_with owned own log held p clock times) (insert own author (length log) at text log))
+insert_types owned own author at text log held p clock times h =
     case (edit_refusal (length log) (change.Insert at text ∷ []) log) refl
   where
     case : (r : Option Refusal) → edit_refusal (length log) (change.Insert at text ∷ []) log ≡ r →
-        TypedBy log at text (on_log (pad_with owned own log held p) (insert own author (length log) at text log))
+        TypedBy log at text (on_log (pad_with owned own log held p clock times) (insert own author (length log) at text log))
     case (Some refusal) e =
-        subst (λ d. TypedBy log at text (on_log (pad_with owned own log held p) (told_name d)))
+        subst (λ d. TypedBy log at text (on_log (pad_with owned own log held p clock times) (told_name d)))
         (sym (edit_refused own (length log) author (change.Insert at text ∷ []) log refusal e))
-        (refused log at text refusal (pad_with owned own log held p))
+        (refused log at text refusal (pad_with owned own log held p clock times))
     case None e =
-        subst (λ d. TypedBy log at text (on_log (pad_with owned own log held p) (told_name d)))
+        subst (λ d. TypedBy log at text (on_log (pad_with owned own log held p clock times) (told_name d)))
         (sym (edit_made own (length log) author (change.Insert at text ∷ []) log e))
         (λ now name told. in_place own author at text log h e)
 
-author_types : (owned : Option Owned) (own : ℕ) (at : ℕ) (text : List ℕ) (log held : List Op) (p : Presence)
+author_types : (owned : Option Owned) (own : ℕ) (at : ℕ) (text : List ℕ) (log held : List Op) (p : Presence) (clock : ℕ) (times : List ℕ)
     (pad : Owned) (author : List ℕ) (visit : Option ℕ) → IsHistory log →
-    TypedBy log at text (author_step pad author visit (act.Insert (length log) at text) (pad_with owned own log held p))
-author_types owned own at text log held p pad author visit h =
+    TypedBy log at text (author_step pad author visit (act.Insert (length log) at text) (pad_with owned own log held p clock times))
+author_types owned own at text log held p clock times pad author visit h =
     case (author_refusal pad.rights p author visit (act.Insert (length log) at text)) refl
   where
     case : (r : Option Refusal) → author_refusal pad.rights p author visit (act.Insert (length log) at text) ≡ r →
         TypedBy log at text (author_step pad author visit (act.Insert (length log) at text)
-        (pad_with owned own log held p))
-    case (Some refusal) e = rw e (refused log at text refusal (pad_with owned own log held p))
-    case None e = rw e (insert_types owned own author at text log held p h)
+        (pad_with owned own log held p clock times))
+    case (Some refusal) e = rw e (refused log at text refusal (pad_with owned own log held p clock times))
+    case None e = rw e (insert_types owned own author at text log held p clock times h)
 
-session_types : (owned : Option Owned) (own : ℕ) (at : ℕ) (text : List ℕ) (log held : List Op) (p : Presence)
+session_types : (owned : Option Owned) (own : ℕ) (at : ℕ) (text : List ℕ) (log held : List Op) (p : Presence) (clock : ℕ) (times : List ℕ)
     (pad : Owned) (who : Who) (visit : Option ℕ) → IsHistory log →
-    TypedBy log at text (session_step pad who visit (act.Insert (length log) at text) (pad_with owned own log held p))
-session_types owned own at text log held p pad Nobody visit h =
-    refused log at text NoSession (pad_with owned own log held p)
-session_types owned own at text log held p pad (Author author) visit h =
-    author_types owned own at text log held p pad author visit h
-session_types owned own at text log held p pad (Peer number version) visit h =
-    refused log at text NoSession (pad_with owned own log held p)
+    TypedBy log at text (session_step pad who visit (act.Insert (length log) at text) (pad_with owned own log held p clock times))
+session_types owned own at text log held p clock times pad Nobody visit h =
+    refused log at text NoSession (pad_with owned own log held p clock times)
+session_types owned own at text log held p clock times pad (Author author) visit h =
+    author_types owned own at text log held p clock times pad author visit h
+session_types owned own at text log held p clock times pad (Peer number version) visit h =
+    refused log at text NoSession (pad_with owned own log held p clock times)
 
-step_types : (owned : Option Owned) (own : ℕ) (at : ℕ) (text : List ℕ) (log held : List Op) (p : Presence)
+step_types : (owned : Option Owned) (own : ℕ) (at : ℕ) (text : List ℕ) (log held : List Op) (p : Presence) (clock : ℕ) (times : List ℕ)
     (pad : List ℕ) (who : Who) (visit : Option ℕ) → IsHistory log →
-    TypedBy log at text (step pad who visit (act.Insert (length log) at text) (pad_with owned own log held p))
-step_types None own at text log held p pad who visit h = refused log at text NoPad (pad_with None own log held p)
-step_types (Some owned) own at text log held p pad who visit h =
+    TypedBy log at text (step pad who visit (act.Insert (length log) at text) (pad_with owned own log held p clock times))
+step_types None own at text log held p clock times pad who visit h = refused log at text NoPad (pad_with None own log held p clock times)
+step_types (Some owned) own at text log held p clock times pad who visit h =
     split (bytes_eq owned.name pad)
-    (λ e. rw e (session_types (Some owned) own at text log held p owned who visit h))
-    (λ e. rw e (elsewhere log at text (pad_with (Some owned) own log held p)))
+    (λ e. rw e (session_types (Some owned) own at text log held p clock times owned who visit h))
+    (λ e. rw e (elsewhere log at text (pad_with (Some owned) own log held p clock times)))
 
 -- what is typed is at its position
 pub types_in_place : (m : Machine) → IsHistory m.log → TypesInPlace m
 types_in_place m h pad who visit at text now name new e =
     subst (λ (x : Machine). InPlace m.log at text x.log) (ap (λ r. r.1) e)
-    (step_types m.owned m.replica at text m.log m.held m.presence pad who visit h now name (ap (λ r. r.0) e))
+    (step_types m.owned m.replica at text m.log m.held m.presence m.clock m.times pad who visit h now name (ap (λ r. r.0) e))

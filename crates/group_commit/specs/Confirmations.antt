@@ -1,5 +1,5 @@
 -- When a reply may go out on a server with a standby.
-use Rattle.std.specs.Prelude.{◌≡◌, ◌⊎◌, ◌≤◌, ◌||◌, if◌then◌else◌, ℕ, Bool, true, false, max, min, List, codes, decimal, Option, Some, None}
+use Rattle.std.specs.Prelude.{◌≡◌, ◌⊎◌, ◌≤◌, ◌||◌, if◌then◌else◌, ℕ, Bool, true, false, not, max, min, List, codes, decimal, Option, Some, None}
 use Rattle.group_commit.specs.declared.confirming.Confirm.{Confirm}
 use Rattle.group_commit.specs.declared.confirming.Confirm.TheVariants as policy
 use Rattle.group_commit.specs.declared.confirming.Confirmation.{Confirmation}
@@ -65,6 +65,12 @@ alone_after other alone = alone
 abbrev pub lost_after : Confirm → Bool → Bool
 lost_after policy.Strict lost = true
 lost_after other lost = lost
+
+-- whether this is the first time that it goes on alone, or that it is to end
+abbrev pub changes : Confirm → Bool → Bool → Bool
+changes policy.Never alone lost = false
+changes (policy.Within seconds) alone lost = not alone
+changes policy.Strict alone lost = not lost
 
 -- on how many machines what is answered now is kept: on the standby's too, where replies wait until it has what they reveal
 abbrev pub machines_of : Confirm → Option ℕ → Bool → Bool → ℕ

@@ -1,9 +1,11 @@
 -- What is noted, and what of it is in a pad's file.
-use Rattle.std.specs.Prelude.{ℕ, Bool, ◌||◌, ◌==◌, not, List, [], ◌∷◌, ◌++◌, ⊤, Option, string_bytes, vec_len}
+use Rattle.std.specs.Prelude.{◌≡◌, ◌≢◌, ℕ, Bool, ◌||◌, ◌==◌, not, List, [], ◌∷◌, ◌++◌, ⊤, Option, string_bytes, vec_len}
 use Rattle.std.specs.Io.KnownBytes.{Appends}
 use Rattle.store_format.specs.Writing.{Adds, IsWritten, texts_of}
 use Rattle.store_format.specs.declared.writer.PadWriter.{PadWriter}
 use Rattle.group_commit.specs.declared.queue.Note.{Note}
+use Rattle.group_commit.specs.declared.queue.Unnoted.{Unnoted}
+use Rattle.group_commit.specs.declared.queue.Unnoted.TheVariants as unnoted
 
 -- a note is in the queue of the pad at this cell. `PadQueue::push` alone gives this fact
 pub WasQueued : ℕ → Note → Type 0
@@ -13,6 +15,18 @@ WasQueued cell note = ⊤
 pub is_queued : (cell : ℕ) (note : Note) → WasQueued cell note
 unfolding WasQueued
 is_queued cell note = tt
+
+-- why the queue of the pad at a cell does not take a note of the pad at another: the cells differ, and otherwise memory ran out
+abbrev pub IsUnqueued : ℕ → ℕ → Unnoted → Type 0
+IsUnqueued own cell unnoted.Memory = cell ≡ own
+IsUnqueued own cell (unnoted.NoCell told) = (told ≡ cell) × (cell ≢ own)
+IsUnqueued own cell unnoted.TooMany = ⊥
+
+-- why a note is not counted, after so many: there is no number for one more, or memory ran out while there was one
+abbrev pub IsUncounted : ℕ → Unnoted → Type 0
+IsUncounted noted unnoted.Memory = noted ≢ 18446744073709551615
+IsUncounted noted (unnoted.NoCell told) = ⊥
+IsUncounted noted unnoted.TooMany = noted ≡ 18446744073709551615
 
 -- nothing is settled any more. A failure alone gives this fact
 pub NothingSettles : Type 0

@@ -25,7 +25,7 @@ pub trait Commit {
 }
 
 /// How many notes there are.
-#[derive(Clone, Copy, Debug)]
+#[derive(Clone, Copy)]
 pub struct NoteCounts {
     /// All of them since the start.
     pub noted: u64,

@@ -1,12 +1,12 @@
 //! How much of what is noted a standby has, and what replies wait for.
 ghost use Rattle.std.specs.Prelude.{◌≡◌, ℕ, None, Some, false, is_some, IfSome};
-ghost use Rattle.group_commit.specs.Confirmations.{AreCopied, IsConfirmation, IsPolicy, IsReached, MayGoOn, alone_after, heard, is_unasked, lost_after, machines_of, word_of};
+ghost use Rattle.group_commit.specs.Confirmations.{AreCopied, IsConfirmation, IsPolicy, IsReached, MayGoOn, alone_after, changes, heard, is_unasked, lost_after, machines_of, word_of};
 
 use std::fmt;
 use std::fmt::{Display, Formatter};
 
 /// What replies do while the standby does not have what they reveal.
-#[derive(Clone, Copy, Debug, PartialEq, Eq)]
+#[derive(Clone, Copy, PartialEq, Eq)]
 pub enum Confirm {
     /// They do not wait for a standby.
     Never,
@@ -18,7 +18,7 @@ pub enum Confirm {
 
 /// The standby has the first so many notes, or what reveals them need not wait for it. Only `Confirming` and
 /// `Confirm::unasked` say so.
-#[derive(Debug, Drop)]
+#[derive(Drop)]
 pub struct Confirmed {
     number: u64,
 }
@@ -58,7 +58,7 @@ impl Confirm {
 }
 
 /// What one who waits for the standby does next.
-#[derive(Debug, Drop)]
+#[derive(Drop)]
 pub enum Confirmation {
     /// Go on.
     Given(Confirmed),
@@ -175,6 +175,7 @@ impl Confirming {
         ensures copied { (self.new.copied ≡ self.old.copied) × (self.new.policy ≡ self.old.policy) }
         ensures alone { self.new.is_alone ≡ alone_after self.old.policy self.old.is_alone }
         ensures lost { self.new.is_lost ≡ lost_after self.old.policy self.old.is_lost }
+        ensures changes { result ≡ changes self.old.policy self.old.is_alone self.old.is_lost }
     {
         match self.policy {
             Confirm::Never => false,

@@ -1,6 +1,6 @@
 //! How many notes there are, how many of them are on the disk, and the round of cells that is under way.
-ghost use Rattle.std.specs.Prelude.{◌≡◌, ◌+◌, ◌⊎◌, ◌<◌, ◌≤◌, [], true, false, IfNone, IfOk, IfSome, OnErr, OnOk};
-ghost use Rattle.group_commit.specs.Notes.{NothingSettles};
+ghost use Rattle.std.specs.Prelude.{◌≡◌, ◌+◌, ◌⊎◌, ◌<◌, ◌≤◌, [], true, false, IfErr, IfNone, IfOk, IfSome, OnErr, OnOk};
+ghost use Rattle.group_commit.specs.Notes.{IsUncounted, NothingSettles};
 ghost use Rattle.group_commit.specs.Rounds.{AreListed, Begins, Counts, IsOrderly, IsNextStep, Reports, Stays, Takes, is_due};
 
 use crate::appending::Committed;
@@ -107,6 +107,7 @@ impl Progress {
     pub fn count(&mut self, noted: QueuedNote) -> Result<(), Unnoted>
         ensures counted { OnOk result (Counts noted.cell self.old.state self.new.state) }
         ensures failed { OnErr result ((self.new.state.has_failed ≡ true) × NothingSettles) }
+        ensures why { IfErr result (IsUncounted self.old.state.noted) }
     {
         let QueuedNote { cell } = noted;
         let counted = self.add(cell);
@@ -118,7 +119,8 @@ impl Progress {
 
     #[tactic(auto, using(crate::proofs::Listed::listed_later))]
     fn add(&mut self, cell: u32) -> Result<(), Unnoted>
-        ensures { OnOk result (Counts cell self.old.state self.new.state) }
+        ensures counts { OnOk result (Counts cell self.old.state self.new.state) }
+        ensures why { IfErr result (IsUncounted self.old.state.noted) }
     {
         let Some(noted) = self.state.noted.checked_add(1) else {
             return Err(Unnoted::TooMany);
@@ -143,7 +145,8 @@ impl Progress {
     #[tactic(auto, using(crate::proofs::Listed::listed_now, crate::proofs::Listed::due_behind, crate::proofs::Listed::listed_same))]
     fn make_due(&mut self, cell: u32, noted: u64) -> Result<(), Unnoted>
         requires { noted ≡ self.old.state.noted + 1 }
-        ensures { OnOk result (Counts cell self.old.state self.new.state) }
+        ensures counts { OnOk result (Counts cell self.old.state self.new.state) }
+        ensures why { IfErr result (λ cause. cause ≡ Unnoted.Memory) }
     {
         if self.state.due.push(cell).is_err() {
             return Err(Unnoted::Memory);

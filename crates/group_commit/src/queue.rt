@@ -1,6 +1,6 @@
 //! What was noted of one pad and is not yet written.
-ghost use Rattle.std.specs.Prelude.{◌≡◌, ◌≢◌, ◌∷◌, ◌++◌, [], IfNone, IfOk, IfSome, OnErr};
-ghost use Rattle.group_commit.specs.Notes.{WasQueued};
+ghost use Rattle.std.specs.Prelude.{◌≡◌, ◌≢◌, ◌∷◌, ◌++◌, [], IfErr, IfNone, IfOk, IfSome, OnErr};
+ghost use Rattle.group_commit.specs.Notes.{IsUnqueued, WasQueued};
 
 use std::alloc::Global;
 use std::mem::replace;
@@ -63,6 +63,7 @@ impl PadQueue {
             × (noted.cell ≡ cell) × WasQueued cell note) }
         ensures cell { self.new.cell ≡ self.old.cell }
         ensures same { OnErr result (self.new.notes.items ≡ self.old.notes.items) }
+        ensures why { IfErr result (IsUnqueued self.old.cell cell) }
     {
         if cell != self.cell {
             return Err(Unnoted::NoCell { cell });

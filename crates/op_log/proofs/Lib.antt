@@ -11,3 +11,4 @@ pub mod Ranges
 pub mod RoundTrip
 pub mod Shelves
 pub mod Stores
+pub mod TimeLists

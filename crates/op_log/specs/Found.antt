@@ -4,7 +4,7 @@ use Rattle.std.specs.List.{filter}
 use Rattle.pad_model.specs.declared.op.Op.{Op}
 use Rattle.pad_model.specs.declared.seen.Counted.{Counted}
 use Rattle.op_log.specs.Log.{is_missing}
-use Rattle.op_log.specs.declared.packed_log.FoundOp.{FoundOp}
+use Rattle.op_log.specs.declared.op_log.FoundOp.{FoundOp}
 
 -- the first operation from a place on that is above the counts, if there is one; the others come after it
 abbrev pub IsNextMissing : List Counted → List Op → ℕ → Option FoundOp → Type 0

@@ -4,7 +4,7 @@ use Rattle.std.specs.List.{AllByRecursion}
 use Rattle.std.specs.Vec.{vec_capacity}
 use Rattle.op_log.specs.Log.{Log, is_note, is_unsayable}
 use Rattle.op_log.specs.Index.{IsIndex, kept, HasRoom, places_of}
-use Rattle.op_log.specs.declared.packed_log.PackedLog.TheInside.{Inside}
+use Rattle.op_log.specs.declared.op_log.OpLog.TheInside.{Inside}
 
 -- the operations, and the one that is ready where there is room for it
 abbrev pub shown : Inside → Log

@@ -12,4 +12,5 @@ pub mod Page
 pub mod Read
 pub mod Shelf
 pub mod Store
+pub mod Times
 pub mod Track

@@ -1,6 +1,5 @@
 -- A log of operations, and what is asked of it.
-use Rattle.std.specs.Prelude.{ℕ, ◌-◌, Bool, not, ◌==◌, nat_lt, Option, Some, None, List, [], take, drop, count_by, Box}
-use Rattle.std.specs.declared.alloc.Global.{Global}
+use Rattle.std.specs.Prelude.{ℕ, ◌-◌, Bool, not, ◌==◌, nat_lt, Option, List, take, drop, count_by}
 use Rattle.std.specs.List.{filter, list_all}
 use Rattle.pad_model.specs.Checked.{is_edit}
 use Rattle.pad_model.specs.OldWire.{op_in_v1}
@@ -14,11 +13,6 @@ use Rattle.pad_model.specs.declared.seen.Counted.{Counted}
 pub record Log : Type 0 where
   pub operations : List Op
   pub ready : Option Op
-
--- the log that is kept, or the empty one where none is
-abbrev pub log_of : Option (Box Log Global) → Log
-log_of None = record { operations = []; ready = None }
-log_of (Some kept) = kept.value
 
 -- the operations that make the revisions from this one on, as many as asked for or as there are
 abbrev pub entries : List Op → ℕ → ℕ → List Op

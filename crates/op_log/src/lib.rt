@@ -8,12 +8,12 @@ mod index;
 mod number;
 mod op_log;
 mod op_store;
-mod packed_log;
 mod page;
 mod read;
 mod shelf;
+mod time_list;
 mod track;
 mod write;
 
-pub use op_log::OpLog;
-pub use packed_log::FoundOp;
+pub use op_log::{FoundOp, OpLog};
+pub use time_list::TimeList;

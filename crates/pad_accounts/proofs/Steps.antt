@@ -1,24 +1,25 @@
 -- A step of each loop over lines.
-use Rattle.std.proofs.Common.{◌≡◌, ◌∙◌, ℕ, ◌+◌, Bool, true, false, cond, List, [], ◌∷◌, ◌++◌, map, is_some, Some, ap, sym, append_assoc}
+use Rattle.std.proofs.Common.{◌≡◌, ◌∙◌, ℕ, ◌+◌, Bool, true, false, cond, List, [], ◌∷◌, ◌++◌, map, Some, ap, sym, append_assoc}
 use Rattle.std.proofs.lemmas.List.{map-append}
-use Rattle.pad_accounts.specs.Lines.{token_on, without_author, without_end}
+use Rattle.pad_accounts.specs.Lines.{is_out, without, without_end}
 use Rattle.pad_accounts.specs.Names.{Seen, is_passed_over, names_from, seen}
+use Rattle.pad_accounts.specs.declared.lines.Taken.{Taken}
 use Rattle.pad_accounts.specs.declared.names.ListedName.{ListedName}
 
--- a line that is the author's is left out
-pub left_out : (name kept line : List ℕ) (lines more : List (List ℕ)) → lines ≡ line ∷ more
-    → is_some (token_on name line) ≡ true → kept ++ without_author name lines ≡ kept ++ without_author name more
-left_out name kept line lines more at some =
-    ap (λ (ls : List (List ℕ)). kept ++ without_author name ls) at
-    ∙ ap (λ (b : Bool). kept ++ (cond b [] line ++ without_author name more)) some
+-- a line that is taken out
+pub left_out : (taken : Taken) (name kept line : List ℕ) (lines more : List (List ℕ)) → lines ≡ line ∷ more
+    → is_out taken name line ≡ true → kept ++ without taken name lines ≡ kept ++ without taken name more
+left_out taken name kept line lines more at out =
+    ap (λ (ls : List (List ℕ)). kept ++ without taken name ls) at
+    ∙ ap (λ (b : Bool). kept ++ (cond b [] line ++ without taken name more)) out
 
 -- any other line is kept
-pub kept_on : (name kept line : List ℕ) (lines more : List (List ℕ)) → lines ≡ line ∷ more
-    → is_some (token_on name line) ≡ false → kept ++ without_author name lines ≡ kept ++ line ++ without_author name more
-kept_on name kept line lines more at none =
-    ap (λ (ls : List (List ℕ)). kept ++ without_author name ls) at
-    ∙ ap (λ (b : Bool). kept ++ (cond b [] line ++ without_author name more)) none
-    ∙ sym (append_assoc kept line (without_author name more))
+pub kept_on : (taken : Taken) (name kept line : List ℕ) (lines more : List (List ℕ)) → lines ≡ line ∷ more
+    → is_out taken name line ≡ false → kept ++ without taken name lines ≡ kept ++ line ++ without taken name more
+kept_on taken name kept line lines more at stays =
+    ap (λ (ls : List (List ℕ)). kept ++ without taken name ls) at
+    ∙ ap (λ (b : Bool). kept ++ (cond b [] line ++ without taken name more)) stays
+    ∙ sym (append_assoc kept line (without taken name more))
 
 -- a line of a list without a name
 pub passed_over : (names : List Seen) (number : ℕ) (line : List ℕ) (lines more : List (List ℕ)) → lines ≡ line ∷ more

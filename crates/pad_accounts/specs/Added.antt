@@ -8,6 +8,7 @@ use Rattle.pad_accounts.specs.declared.add.Addition.{Addition}
 use Rattle.pad_accounts.specs.declared.link.LinkForm.{LinkForm}
 use Rattle.pad_accounts.specs.declared.names.ListedName.{ListedName}
 use Rattle.pad_accounts.specs.declared.new_author.NewAuthor.{NewAuthor}
+use Rattle.pad_accounts.specs.declared.new_author.SecretKind.{SecretKind}
 
 -- the names of authors who are added
 abbrev pub names_of_new : List NewAuthor → List (List ℕ)
@@ -34,7 +35,7 @@ LogInBy text new =
 
 -- the new text is the old one with a line for each author behind it, by which each of them logs in, and a link of each
 -- is printed
-pub record Adds (text : List ℕ) (new : List NewAuthor) (form : LinkForm) (done : Addition) : Type 0 where
-  pub text_after : done.text.items ≡ with_authors text new
+pub record Adds (text : List ℕ) (new : List NewAuthor) (kind : SecretKind) (form : LinkForm) (done : Addition) : Type 0 where
+  pub text_after : done.text.items ≡ with_authors kind text new
   pub links : done.links.items ≡ with_links [] form new
   pub log_in : LogInBy done.text.items new

@@ -1,8 +1,8 @@
 -- The command line of the program, and what its words give.
 use Rattle.std.specs.Prelude.{◌≡◌, List, [], ℕ, codes, map, option_map, unwrap_or, Some, true}
-use Rattle.clap.specs.Words.{App, Rule, all_of, matches_of, new_app, new_rule, with_rule}
+use Rattle.clap.specs.Words.{App, Rule, all_of, matches_of, new_app, new_rule, one_of, with_rule}
 use Rattle.clap.specs.declared.builder.action.ArgAction.TheVariants.{Append}
-use Rattle.command_line.specs.Options.{option_rule, text_given, versioned}
+use Rattle.command_line.specs.Options.{IsFlag, flag_rule, option_rule, text_given, versioned}
 use Rattle.pad_accounts.specs.declared.args.AccountsArguments.{AccountsArguments}
 
 -- a positional argument that is required
@@ -20,8 +20,8 @@ line_with_arguments = with_rule (with_rule (with_rule (versioned (new_app (codes
 
 -- the whole command line, in the terms of clap, which define the words that it accepts and what they give under a name
 abbrev pub line : App
-line = with_rule (with_rule (with_rule line_with_arguments (option_rule (codes "from"))) (option_rule (codes "at")))
-    (option_rule (codes "pad"))
+line = with_rule (with_rule (with_rule (with_rule line_with_arguments (option_rule (codes "from")))
+    (option_rule (codes "at"))) (option_rule (codes "pad"))) (flag_rule (codes "hash"))
 
 -- what the words give: the texts under the names of the arguments and options
 pub record AsksFor (words : List (List ℕ)) (asked : AccountsArguments) : Type 0 where
@@ -31,3 +31,4 @@ pub record AsksFor (words : List (List ℕ)) (asked : AccountsArguments) : Type 
   pub from : option_map (λ list. list.now) asked.from ≡ text_given line words (codes "from")
   pub at : option_map (λ origin. origin.now) asked.at ≡ text_given line words (codes "at")
   pub pad : option_map (λ pad. pad.now) asked.pad ≡ text_given line words (codes "pad")
+  pub hash : IsFlag (one_of (codes "hash") (matches_of line words)) asked.hash

@@ -8,6 +8,7 @@ pub mod Listed
 pub mod Modes
 pub mod Names
 pub mod Origins
+pub mod Persons
 pub mod Removed
 pub mod Status
 pub mod Tokens

@@ -1,5 +1,5 @@
 -- What the program does, by its command line.
-use Rattle.std.specs.Prelude.{List, ℕ, Bool, true, false, ◌&&◌, ◌==◌, bytes_eq, codes, if◌then◌else◌, length, slice_get}
+use Rattle.std.specs.Prelude.{List, ℕ, Bool, true, false, ◌&&◌, ◌==◌, bytes_eq, codes, nat_le, if◌then◌else◌, length, slice_get}
 use Rattle.std.specs.Prelude.{Option, Some, None, Result, Ok, Err, is_some}
 use Rattle.std.specs.Borrow.{Bor}
 use Rattle.pad_model.specs.Checked.{is_name}
@@ -12,6 +12,8 @@ use Rattle.pad_accounts.specs.declared.mode.AccountsMisuse.{AccountsMisuse}
 use Rattle.pad_accounts.specs.declared.mode.AccountsMisuse.TheVariants as misuse
 use Rattle.pad_accounts.specs.declared.mode.AccountsMode.{AccountsMode}
 use Rattle.pad_accounts.specs.declared.mode.AccountsMode.TheVariants as mode
+use Rattle.pad_accounts.specs.declared.new_author.SecretKind.{SecretKind}
+use Rattle.pad_accounts.specs.declared.new_author.SecretKind.TheVariants.{Token, Hash}
 
 -- the command with a name
 abbrev pub deed_of : List ℕ → Option AccountsDeed
@@ -20,6 +22,7 @@ deed_of command =
     else if bytes_eq command (codes "remove") then Some deed.Remove
     else if bytes_eq command (codes "list") then Some deed.List
     else if bytes_eq command (codes "link") then Some deed.Link
+    else if bytes_eq command (codes "person") then Some deed.Person
     else None
 
 -- a pad that has no name of a pad
@@ -36,27 +39,33 @@ wrong_form (Some at) pad = if is_origin at.now then wrong_pad pad else Some (mis
 abbrev pub needless : Bool → Bool → AccountsArguments → Option AccountsMisuse
 needless no_from no_form asked =
     if no_from && is_some asked.from then Some misuse.From
+    else if no_from && asked.hash then Some misuse.Hash
     else if no_form && is_some asked.at then Some misuse.At
     else if no_form && is_some asked.pad then Some misuse.Pad
     else wrong_form asked.at asked.pad
 
--- what is wrong with the options of a command, if anything: `--from` is for add, the others for add and link
+-- what is wrong with the options of a command, if anything: `--from` and `--hash` are for add, the others for add and link
 abbrev pub misuse_of : AccountsDeed → AccountsArguments → Option AccountsMisuse
 misuse_of deed.Add asked = needless false false asked
 misuse_of deed.Link asked = needless true false asked
 misuse_of deed.Remove asked = needless true true asked
 misuse_of deed.List asked = needless true true asked
+misuse_of deed.Person asked = needless true true asked
 
 -- what the links lead to
 abbrev pub form_of : AccountsArguments → LinkForm
 form_of asked = record { at = asked.at; pad = asked.pad }
 
+-- what the accounts file has of the tokens
+abbrev pub kind_of : AccountsArguments → SecretKind
+kind_of asked = if asked.hash then Hash else Token
+
 -- an addition of the names on a list, which takes no others, or of names, of which there have to be some
 abbrev pub added_from : Option (Bor (List ℕ)) → AccountsArguments → Bor (List ℕ) → LinkForm → Result AccountsMode AccountsMisuse
 added_from (Some list) asked file form =
-    if length asked.names.items == 0 then Ok (mode.AddList file list form) else Err misuse.NamesAndList
+    if length asked.names.items == 0 then Ok (mode.AddList file list (kind_of asked) form) else Err misuse.NamesAndList
 added_from None asked file form =
-    if length asked.names.items == 0 then Err misuse.NoNames else Ok (mode.Add file asked.names form)
+    if length asked.names.items == 0 then Err misuse.NoNames else Ok (mode.Add file asked.names (kind_of asked) form)
 
 -- an addition of the names, or of those on a list
 abbrev pub added_by : AccountsArguments → Bor (List ℕ) → LinkForm → Result AccountsMode AccountsMisuse
@@ -78,6 +87,8 @@ done_with asked file deed.Remove = named_once (λ name. mode.Remove file name) m
 done_with asked file deed.List = if length asked.names.items == 0 then Ok (mode.List file) else Err misuse.ListNone
 done_with asked file deed.Link =
     named_once (λ name. mode.Link file name (form_of asked)) misuse.LinkOne (only_of asked.names.items)
+done_with asked file deed.Person = if nat_le 3 (length asked.names.items) then Ok (mode.Person file asked.names)
+    else Err misuse.PersonWords
 
 -- the mode, unless something is wrong with the options
 abbrev pub unless_misused : Option AccountsMisuse → Result AccountsMode AccountsMisuse → Result AccountsMode AccountsMisuse

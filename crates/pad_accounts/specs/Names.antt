@@ -1,11 +1,11 @@
 -- The names that are to be added, and what can be wrong with them.
-use Rattle.std.specs.Prelude.{ℕ, ◌+◌, ◌==◌, Bool, true, not, if◌then◌else◌, List, [], ◌∷◌, ◌++◌, bytes_eq}
+use Rattle.std.specs.Prelude.{ℕ, ◌+◌, ◌==◌, ◌||◌, Bool, true, not, codes, if◌then◌else◌, List, [], ◌∷◌, ◌++◌, bytes_eq}
 use Rattle.std.specs.Prelude.{Option, None, Some}
 use Rattle.std.specs.List.{list_any}
 use Rattle.std.specs.Option.{is_some}
 use Rattle.std.specs.Borrow.{Bor}
 use Rattle.pad_model.specs.Checked.{is_name}
-use Rattle.pad_accounts.specs.Lines.{token_in, without_end}
+use Rattle.pad_accounts.specs.Lines.{rest_in, token_in, without_end}
 use Rattle.pad_accounts.specs.declared.names.ListedName.{ListedName}
 use Rattle.pad_accounts.specs.declared.names.NameFault.{NameFault}
 use Rattle.pad_accounts.specs.declared.names.NameFault.TheVariants.{NotAName, Twice, Taken}
@@ -35,9 +35,9 @@ names_from number (line ∷ rest) =
     if is_passed_over (without_end line) then names_from (number + 1) rest
     else (without_end line, Some number) ∷ names_from (number + 1) rest
 
--- whether one of these lines is an author's
+-- whether one of these lines is that of an author's token or hash
 abbrev pub has_author : List ℕ → List (List ℕ) → Bool
-has_author name lines = is_some (token_in name lines)
+has_author name lines = is_some (token_in name lines) || is_some (rest_in (codes "hash ") name lines)
 
 -- whether one of these names is this one
 abbrev pub was_named : List ℕ → List ListedName → Bool

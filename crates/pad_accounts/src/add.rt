@@ -9,7 +9,7 @@ use crate::failure::AccountsFailure;
 use crate::lines::with_authors;
 use crate::link::{LinkForm, push_link};
 use crate::names::{ListedName, wrong_name};
-use crate::new_author::NewAuthor;
+use crate::new_author::{NewAuthor, SecretKind};
 use crate::token::{TOKEN_LENGTH, token_of};
 use sessions::{Accounts, AccountsError};
 use std::alloc::Global;
@@ -21,7 +21,7 @@ use std::io::Read;
 const RANDOM: &str = "/dev/urandom";
 
 /// What an addition comes to.
-#[derive(Debug, Drop)]
+#[derive(Drop)]
 pub struct Addition {
     /// The new text of the accounts file.
     pub text: Vec<u8>,
@@ -35,18 +35,30 @@ pub fn add<'a>(
     rt: &HostRuntime,
     path: &'a str,
     names: &[ListedName<'a>],
+    kind: SecretKind,
     form: LinkForm<'a>,
 ) -> Result<Vec<u8>, AccountsFailure<'a>> {
     let held = AccountFile::open(rt, path)?;
     let text = held.read_or_begin(rt)?;
-    let _accounts = check(rt.alloc(), path, text.as_slice())?;
-    if let Some(wrong) = wrong_name(text.as_slice(), names) {
+    check(rt.alloc(), path, text.as_slice())?;
+    let added = prepare_addition(rt, text.as_slice(), names, kind, form)?;
+    held.replace(rt, added.text.as_slice())?;
+    Ok(added.links)
+}
+
+/// What the addition of these authors to this text comes to, each with a new token.
+fn prepare_addition<'a>(
+    rt: &HostRuntime,
+    text: &[u8],
+    names: &[ListedName<'a>],
+    kind: SecretKind,
+    form: LinkForm<'a>,
+) -> Result<Addition, AccountsFailure<'a>> {
+    if let Some(wrong) = wrong_name(text, names) {
         return Err(AccountsFailure::WrongName(wrong));
     }
     let new = with_tokens(rt, names)?;
-    let Addition { text, links } = extend(rt.alloc(), text.as_slice(), new.as_slice(), form)?;
-    held.replace(rt, text.as_slice())?;
-    Ok(links)
+    extend(rt.alloc(), text, new.as_slice(), kind, form)
 }
 
 /// These authors, each with a new token.
@@ -87,11 +99,12 @@ pub fn extend(
     alloc: Global,
     text: &[u8],
     new: &[NewAuthor<'_>],
+    kind: SecretKind,
     form: LinkForm<'_>,
 ) -> Result<Addition, AccountsFailure<'static>>
-    ensures { IfOk result (Adds text.now new.now form.entry) }
+    ensures { IfOk result (Adds text.now new.now kind form.entry) }
 {
-    let text = with_authors(alloc, text, new)?;
+    let text = with_authors(alloc, text, new, kind)?;
     let accounts = check_more(alloc, text.as_slice())?;
     let links = links_of(alloc, &accounts, new, form)?;
     Ok(Addition { text, links })

@@ -5,7 +5,7 @@ ghost use Rattle.clap.specs.Words.{FailsBy, app_of, new_app};
 ghost use Rattle.command_line.specs.Options.{versioned};
 ghost use Rattle.pad_accounts.specs.CommandLine.{AsksFor, line, line_with_arguments};
 
-use crate::options::{names_of, names_word, option, word};
+use crate::options::{flag, names_of, names_word, option, word};
 use clap::{Command, Error};
 use command_line::VERSION;
 use std::alloc::{AllocError, Global};
@@ -25,13 +25,16 @@ pub struct AccountsArguments<'a> {
     pub at: Option<&'a str>,
     /// The pad that a link opens.
     pub pad: Option<&'a str>,
+    /// Whether the hash of a token is stored in its place.
+    pub hash: bool,
 }
 
-const USAGE: &str = "pad_accounts <FILE> add <NAME>.. [--at <URL>] [--pad <PAD>]
-       pad_accounts <FILE> add --from <LIST> [--at <URL>] [--pad <PAD>]
+const USAGE: &str = "pad_accounts <FILE> add <NAME>.. [--hash] [--at <URL>] [--pad <PAD>]
+       pad_accounts <FILE> add --from <LIST> [--hash] [--at <URL>] [--pad <PAD>]
        pad_accounts <FILE> remove <NAME>
        pad_accounts <FILE> list
-       pad_accounts <FILE> link <NAME> [--at <URL>] [--pad <PAD>]";
+       pad_accounts <FILE> link <NAME> [--at <URL>] [--pad <PAD>]
+       pad_accounts <FILE> person <NAME> <ID> <DISPLAY NAME>..";
 
 // The program's name and its help.
 fn start<'a>(alloc: Global) -> Command<'a>
@@ -39,7 +42,7 @@ fn start<'a>(alloc: Global) -> Command<'a>
 {
     Command::new(alloc, "pad_accounts")
         .about(
-            "Adds authors to the accounts file of a pad server, removes them, and prints their log-in links",
+            "Adds authors to the accounts file of a pad server, removes them, prints their log-in links, and says who they are",
         )
         .version(VERSION)
         .override_usage(USAGE)
@@ -50,11 +53,14 @@ fn with_positional_arguments<'a>(alloc: Global) -> Result<Command<'a>, AllocErro
     ensures { IfOk result (λ command. app_of command ≡ line_with_arguments) }
 {
     let file_help = "The accounts file; add makes it if it is not there";
-    let command_help = "add, remove, list or link";
+    let command_help = "add, remove, list, link or person";
     start(alloc)
         .arg(word(alloc, "file", "FILE", file_help))?
         .arg(word(alloc, "command", "COMMAND", command_help))?
-        .arg(names_word(alloc, "With add, remove and link: the names of authors"))
+        .arg(names_word(
+            alloc,
+            "With add, remove and link: the names of authors; with person: a name, an ID or -, and a display name",
+        ))
 }
 
 fn command<'a>(alloc: Global) -> Result<Command<'a>, AllocError>
@@ -63,10 +69,13 @@ fn command<'a>(alloc: Global) -> Result<Command<'a>, AllocError>
     let from_help = "With add: a text file with a name on each line; - is standard input";
     let at_help = "With add and link: where the page is [default: http://127.0.0.1:8080]";
     let pad_help = "With add and link: the pad that the link opens";
+    let hash_help =
+        "With add: the file gets the hash of each token, and only the link has the token";
     with_positional_arguments(alloc)?
         .arg(option(alloc, "from", "LIST", from_help))?
         .arg(option(alloc, "at", "URL", at_help))?
-        .arg(option(alloc, "pad", "PAD", pad_help))
+        .arg(option(alloc, "pad", "PAD", pad_help))?
+        .arg(flag(alloc, "hash", hash_help))
 }
 
 /// What the words of the command line give, or what is wrong with them.
@@ -86,5 +95,6 @@ pub fn parse<'a>(alloc: Global, words: &'a [String]) -> Result<AccountsArguments
         from: matches.get_str("from"),
         at: matches.get_str("at"),
         pad: matches.get_str("pad"),
+        hash: matches.get_flag("hash"),
     })
 }

@@ -13,7 +13,7 @@ use std::process::ExitCode;
 use std::{fmt, io};
 
 /// Why the program ends early.
-#[derive(Clone, Copy, Debug)]
+#[derive(Clone, Copy)]
 pub enum AccountsFailure<'a> {
     Memory,
     /// The arguments could not be read.
@@ -45,8 +45,17 @@ pub enum AccountsFailure<'a> {
         path: &'a str,
         name: &'a str,
     },
+    /// Of the token of this author the accounts file has only the hash.
+    OnlyHash {
+        path: &'a str,
+        name: &'a str,
+    },
     /// The accounts file would be wrong with what is added.
     WouldBeWrong(Mistake),
+    /// The accounts file would be wrong with the line of a person.
+    WrongPerson(Mistake),
+    /// A person would not have the display name.
+    NoPerson,
     /// An author could not log in with what is added.
     NoLogin,
     /// There are no random bytes.
@@ -119,7 +128,10 @@ impl<'a> AccountsFailure<'a> {
             | AccountsFailure::WrongFile { .. }
             | AccountsFailure::WrongName(_)
             | AccountsFailure::NoAuthor { .. }
-            | AccountsFailure::WouldBeWrong(_) => ExitCode::from(2),
+            | AccountsFailure::OnlyHash { .. }
+            | AccountsFailure::WouldBeWrong(_)
+            | AccountsFailure::WrongPerson(_)
+            | AccountsFailure::NoPerson => ExitCode::from(2),
             _ => ExitCode::FAILURE,
         }
     }
@@ -150,6 +162,18 @@ impl fmt::Display for AccountsFailure<'_> {
                 let reason = reason_of(*mistake);
                 write!(f, "nothing is written: with these names, {reason}")
             }
+            AccountsFailure::OnlyHash { path, name } => write!(
+                f,
+                "the token of {name} is not known: {path} has only its hash; remove and add the author for a new link"
+            ),
+            AccountsFailure::WrongPerson(mistake) => {
+                let reason = reason_of(*mistake);
+                write!(f, "nothing is written: {reason}")
+            }
+            AccountsFailure::NoPerson => write!(
+                f,
+                "nothing is written: a display name is one line of text"
+            ),
             AccountsFailure::NoLogin => write!(
                 f,
                 "nothing is written: a new author could not log in"

@@ -8,7 +8,7 @@ use std::alloc::AllocError;
 const DEFAULT_AT: &str = "http://127.0.0.1:8080";
 
 /// What a link leads to.
-#[derive(Clone, Copy, Debug, PartialEq, Eq)]
+#[derive(Clone, Copy)]
 pub struct LinkForm<'a> {
     /// The origin of the page. None: `DEFAULT_AT`.
     pub at: Option<&'a str>,

@@ -1,4 +1,4 @@
-//! Adds authors to an accounts file, removes them, lists them, and prints the links with which they log in.
+//! Adds authors to an accounts file, removes them, lists them, prints the links with which they log in, and says who they are.
 #![tactic(auto)]
 
 mod account_file;
@@ -14,6 +14,7 @@ mod names;
 mod new_author;
 mod options;
 mod origin;
+mod person;
 mod remove;
 mod token;
 
@@ -27,7 +28,9 @@ use lines::token_of;
 use link::{LinkForm, push_link};
 use listed::listed;
 use mode::AccountsMode;
-use names::{ListedName, names_in, words_as_names};
+use names::{ListedName, has_author, names_in, words_as_names};
+use new_author::SecretKind;
+use person::introduce;
 use remove::remove;
 use std::alloc::Global;
 use std::io;
@@ -88,24 +91,31 @@ fn run<'a>(
 ) -> Result<(), AccountsFailure<'a>> {
     let alloc = rt.alloc();
     match mode {
-        AccountsMode::Add { file, names, form } => {
+        AccountsMode::Add {
+            file,
+            names,
+            kind,
+            form,
+        } => {
             let names = words_as_names(alloc, names.as_slice())?;
-            add_all(rt, file, names.as_slice(), form)
+            add_all(rt, file, names.as_slice(), kind, form)
         }
         AccountsMode::AddList {
             file,
             list: path,
+            kind,
             form,
         } => {
             let names = names_in(alloc, list)?;
             if names.is_empty() {
                 return Err(AccountsFailure::EmptyList { path });
             }
-            add_all(rt, file, names.as_slice(), form)
+            add_all(rt, file, names.as_slice(), kind, form)
         }
         AccountsMode::Remove { file, name } => remove(rt, file, name),
         AccountsMode::List { file } => list_all(rt, file),
         AccountsMode::Link { file, name, form } => print_link(rt, file, name, form),
+        AccountsMode::Person { file, words } => introduce(rt, file, words.as_slice()),
     }
 }
 
@@ -114,16 +124,17 @@ fn add_all<'a>(
     rt: &HostRuntime,
     path: &'a str,
     names: &[ListedName<'a>],
+    kind: SecretKind,
     form: LinkForm<'a>,
 ) -> Result<(), AccountsFailure<'a>> {
-    let links = add(rt, path, names, form)?;
+    let links = add(rt, path, names, kind, form)?;
     print(rt, links.as_slice())
 }
 
-/// Prints the authors and the numbers of the peers.
+/// Prints the authors, the numbers of the peers, and the persons.
 fn list_all<'a>(rt: &HostRuntime, path: &'a str) -> Result<(), AccountsFailure<'a>> {
     let text = read_accounts_file(rt, path)?;
-    let _accounts = check(rt.alloc(), path, text.as_slice())?;
+    check(rt.alloc(), path, text.as_slice())?;
     let shown = listed(rt.alloc(), text.as_slice())?;
     print(rt, shown.as_slice())
 }
@@ -136,9 +147,12 @@ fn print_link<'a>(
     form: LinkForm<'a>,
 ) -> Result<(), AccountsFailure<'a>> {
     let text = read_accounts_file(rt, path)?;
-    let _accounts = check(rt.alloc(), path, text.as_slice())?;
+    check(rt.alloc(), path, text.as_slice())?;
     let Some(token) = token_of(text.as_slice(), name.as_bytes()) else {
-        return Err(AccountsFailure::NoAuthor { path, name });
+        return Err(match has_author(text.as_slice(), name.as_bytes()) {
+            true => AccountsFailure::OnlyHash { path, name },
+            false => AccountsFailure::NoAuthor { path, name },
+        });
     };
     let mut shown = Vec::new(rt.alloc());
     push_link(&mut shown, form, name.as_bytes(), token)?;

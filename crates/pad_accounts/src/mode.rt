@@ -1,44 +1,48 @@
 //! What the program does, by its command line.
 ghost use Rattle.std.specs.Prelude.{◌≡◌};
-ghost use Rattle.pad_accounts.specs.Modes.{added_by, done_with, form_of, misuse_of, mode_of, needless, only_of, with_deed, wrong_form};
+ghost use Rattle.pad_accounts.specs.Modes.{added_by, done_with, form_of, kind_of, misuse_of, mode_of, needless, only_of, with_deed, wrong_form};
 ghost use Rattle.pad_accounts.specs.Modes as modes;
 
 use crate::args::AccountsArguments;
 use crate::link::LinkForm;
+use crate::new_author::SecretKind;
 use crate::origin::is_origin;
 use pad_model::is_well_formed_name;
 use thiserror::Error;
 
 /// A command of the program.
-#[derive(Clone, Copy, Debug, PartialEq, Eq)]
+#[derive(Clone, Copy)]
 pub enum AccountsDeed {
     Add,
     Remove,
     List,
     Link,
+    Person,
 }
 
 /// A command with its arguments.
-#[derive(Debug, Drop)]
+#[derive(Drop)]
 pub enum AccountsMode<'a> {
     /// Adds the authors that are named.
     Add {
         file: &'a str,
         names: Vec<&'a str>,
+        kind: SecretKind,
         form: LinkForm<'a>,
     },
     /// Adds the authors on the lines of a list.
     AddList {
         file: &'a str,
         list: &'a str,
+        kind: SecretKind,
         form: LinkForm<'a>,
     },
-    /// Removes an author.
+    /// Removes an author, and what is said of the person.
     Remove {
         file: &'a str,
         name: &'a str,
     },
-    /// Prints the authors and the numbers of the peers.
+    /// Prints the authors, the numbers of the peers, and the persons.
     List {
         file: &'a str,
     },
@@ -48,12 +52,17 @@ pub enum AccountsMode<'a> {
         name: &'a str,
         form: LinkForm<'a>,
     },
+    /// Says who a person is: the name, the ID and the words of the display name.
+    Person {
+        file: &'a str,
+        words: Vec<&'a str>,
+    },
 }
 
 /// What is wrong with a command line that clap accepts.
-#[derive(Clone, Copy, Debug, PartialEq, Eq, Error)]
+#[derive(Clone, Copy, Debug, Error)]
 pub enum AccountsMisuse<'a> {
-    #[error("the command is add, remove, list or link")]
+    #[error("the command is add, remove, list, link or person")]
     NoCommand,
     #[error("add needs a name, or --from <LIST>")]
     NoNames,
@@ -65,8 +74,12 @@ pub enum AccountsMisuse<'a> {
     ListNone,
     #[error("link takes one name")]
     LinkOne,
+    #[error("person takes a name, an ID, or - for none, and a display name")]
+    PersonWords,
     #[error("--from <LIST> is for add")]
     From,
+    #[error("--hash is for add")]
+    Hash,
     #[error("--at <URL> is for add and link")]
     At,
     #[error("--pad <PAD> is for add and link")]
@@ -122,6 +135,11 @@ impl<'a> AccountsArguments<'a> {
                 Some(name) => Ok(AccountsMode::Link { file, name, form }),
                 None => Err(AccountsMisuse::LinkOne),
             },
+            AccountsDeed::Person if self.names.len() >= 3 => Ok(AccountsMode::Person {
+                file,
+                words: self.names,
+            }),
+            AccountsDeed::Person => Err(AccountsMisuse::PersonWords),
         }
     }
 
@@ -144,15 +162,33 @@ impl<'a> AccountsArguments<'a> {
     ) -> Result<AccountsMode<'a>, AccountsMisuse<'a>>
         ensures { result ≡ added_by self.entry file.entry form.entry }
     {
+        let kind = self.kind();
         match self.from {
-            Some(list) if self.names.is_empty() => Ok(AccountsMode::AddList { file, list, form }),
+            Some(list) if self.names.is_empty() => Ok(AccountsMode::AddList {
+                file,
+                list,
+                kind,
+                form,
+            }),
             Some(_) => Err(AccountsMisuse::NamesAndList),
             None if self.names.is_empty() => Err(AccountsMisuse::NoNames),
             None => Ok(AccountsMode::Add {
                 file,
                 names: self.names,
+                kind,
                 form,
             }),
+        }
+    }
+
+    // What the accounts file has of the tokens.
+    fn kind(&self) -> SecretKind
+        ensures { result ≡ kind_of self.now }
+    {
+        if self.hash {
+            SecretKind::Hash
+        } else {
+            SecretKind::Token
         }
     }
 
@@ -173,7 +209,9 @@ impl<'a> AccountsArguments<'a> {
         match deed {
             AccountsDeed::Add => self.needless(false, false),
             AccountsDeed::Link => self.needless(true, false),
-            AccountsDeed::Remove | AccountsDeed::List => self.needless(true, true),
+            AccountsDeed::Remove | AccountsDeed::List | AccountsDeed::Person => {
+                self.needless(true, true)
+            }
         }
     }
 
@@ -183,6 +221,8 @@ impl<'a> AccountsArguments<'a> {
     {
         if no_from && self.from.is_some() {
             Some(AccountsMisuse::From)
+        } else if no_from && self.hash {
+            Some(AccountsMisuse::Hash)
         } else if no_form && self.at.is_some() {
             Some(AccountsMisuse::At)
         } else if no_form && self.pad.is_some() {
@@ -213,6 +253,7 @@ fn deed_of(command: &str) -> Option<AccountsDeed>
         "remove" => Some(AccountsDeed::Remove),
         "list" => Some(AccountsDeed::List),
         "link" => Some(AccountsDeed::Link),
+        "person" => Some(AccountsDeed::Person),
         _ => None,
     }
 }

@@ -1,23 +1,23 @@
 //! The names that are to be added, and what can be wrong with them.
-ghost use Rattle.std.specs.Prelude.{◌≡◌, [], map, IfOk};
+ghost use Rattle.std.specs.Prelude.{◌≡◌, [], map, is_some, IfOk};
 ghost use Rattle.pad_model.specs.Checked.{is_name};
-ghost use Rattle.pad_accounts.specs.Lines.{raw_lines};
+ghost use Rattle.pad_accounts.specs.Lines.{raw_lines, rest_in};
 ghost use Rattle.pad_accounts.specs.Names.{fault_of, first_fault, has_author, is_passed_over, names_from, seen, was_named};
 ghost use Rattle.pad_accounts.specs.Names as spec;
 
-use crate::lines::{cut_line, token_of, without_end};
+use crate::lines::{cut_line, rest_of, without_end};
 use pad_model::is_well_formed_name;
 use std::alloc::{AllocError, Global};
 
 /// A name that is to be added, with the number of its line if it is from a list.
-#[derive(Clone, Copy, Debug, PartialEq, Eq)]
+#[derive(Clone, Copy)]
 pub struct ListedName<'a> {
     pub name: &'a [u8],
     pub line: Option<u64>,
 }
 
 /// What is wrong with a name that is to be added.
-#[derive(Clone, Copy, Debug, PartialEq, Eq)]
+#[derive(Clone, Copy)]
 pub enum NameFault {
     /// It is not 1 to 32 characters of a-z, 0-9 and -.
     NotAName,
@@ -28,7 +28,7 @@ pub enum NameFault {
 }
 
 /// A name that cannot be added.
-#[derive(Clone, Copy, Debug, PartialEq, Eq)]
+#[derive(Clone, Copy)]
 pub struct WrongName<'a> {
     pub named: ListedName<'a>,
     pub fault: NameFault,
@@ -117,12 +117,19 @@ fn was_named(names: &[ListedName<'_>], name: &[u8]) -> bool
     names.iter().any(|other| other.name == name)
 }
 
-/// Whether an accounts file with this text has an author of this name.
+/// Whether an accounts file with this text has the token or the hash of an author of this name.
 pub fn has_author(text: &[u8], name: &[u8]) -> bool
     ensures { result ≡ has_author name.now (raw_lines text.now) }
 {
-    match token_of(text, name) {
-        Some(_token) => true,
+    has_line(b"author ", text, name) || has_line(b"hash ", text, name)
+}
+
+/// Whether a line begins with this word and this name.
+pub fn has_line(kind: &[u8], text: &[u8], name: &[u8]) -> bool
+    ensures { result ≡ is_some (rest_in kind.now name.now (raw_lines text.now)) }
+{
+    match rest_of(kind, text, name) {
+        Some(_rest) => true,
         None => false,
     }
 }

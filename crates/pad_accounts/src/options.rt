@@ -1,7 +1,7 @@
 //! The options of the command line.
 ghost use Rattle.std.specs.Prelude.{◌≡◌, IfOk, false, map, option_map, unwrap_or, [], codes};
 ghost use Rattle.clap.specs.Words.{found_of, matched_of, raw_values, rule_of};
-ghost use Rattle.command_line.specs.Options.{option_rule};
+ghost use Rattle.command_line.specs.Options.{flag_rule, option_rule};
 ghost use Rattle.pad_accounts.specs.CommandLine.{names_rule, needed_word};
 
 use clap::{Arg, ArgAction, ArgMatches};
@@ -34,6 +34,16 @@ pub fn option<'a>(alloc: Global, name: &'a str, shown: &'a str, help: &'a str) -
     Arg::new(alloc, name)
         .long(name)
         .value_name(shown)
+        .help(help)
+}
+
+/// An option that takes no value.
+pub fn flag<'a>(alloc: Global, name: &'a str, help: &'a str) -> Arg<'a>
+    ensures { (rule_of result ≡ flag_rule name.now) × (result.global ≡ false) }
+{
+    Arg::new(alloc, name)
+        .long(name)
+        .action(ArgAction::SetTrue)
         .help(help)
 }
 

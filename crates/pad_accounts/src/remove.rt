@@ -5,11 +5,11 @@ ghost use Rattle.pad_accounts.specs.Removed.{Removes};
 use crate::account_file::AccountFile;
 use crate::checked::check;
 use crate::failure::AccountsFailure;
-use crate::lines::without_author;
-use crate::names::has_author;
+use crate::lines::{Taken, without};
+use crate::names::{has_author, has_line};
 use std::alloc::Global;
 
-/// Removes an author from an accounts file.
+/// Removes an author, and what is said of the person, from an accounts file.
 pub fn remove<'a>(
     rt: &HostRuntime,
     path: &'a str,
@@ -17,12 +17,17 @@ pub fn remove<'a>(
 ) -> Result<(), AccountsFailure<'a>> {
     let held = AccountFile::open(rt, path)?;
     let text = held.read(rt)?;
-    let _accounts = check(rt.alloc(), path, text.as_slice())?;
-    if !has_author(text.as_slice(), name.as_bytes()) {
+    check(rt.alloc(), path, text.as_slice())?;
+    if !is_there(text.as_slice(), name.as_bytes()) {
         return Err(AccountsFailure::NoAuthor { path, name });
     }
     let less = shrink(rt.alloc(), path, text.as_slice(), name.as_bytes())?;
     held.replace(rt, less.as_slice())
+}
+
+/// Whether a line is an author's or a person's.
+fn is_there(text: &[u8], name: &[u8]) -> bool {
+    has_author(text, name) || has_line(b"person ", text, name)
 }
 
 /// The text without the lines of an author, which is an accounts file.
@@ -34,7 +39,7 @@ pub fn shrink<'a>(
 ) -> Result<Vec<u8>, AccountsFailure<'a>>
     ensures { IfOk result (λ less. Removes text.now name.now less.items) }
 {
-    let less = without_author(alloc, text, name)?;
+    let less = without(alloc, text, name, Taken::AllLines)?;
     let _accounts = check(alloc, path, less.as_slice())?;
     Ok(less)
 }

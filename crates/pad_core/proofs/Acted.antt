@@ -1,6 +1,7 @@
 -- From what an act does to a part of a pad to what it does to the pad.
-use Rattle.std.proofs.Common.{◌≡◌, ◌≤◌, inl, inr, ℕ, List, length, Option, Some, Result, Ok, IsTrue, sym, ap, ap₂, ◌∙◌}
-use Rattle.std.proofs.Common.{subst, le-ltb}
+use Rattle.std.proofs.Common.{◌≡◌, ◌≤◌, Bool, true, false, cond, bytes_eq, inl, inr, ℕ, List, length, Option, Some}
+use Rattle.std.proofs.Common.{Result, Ok, Err, IsTrue, sym, ap, ap₂, ◌∙◌}
+use Rattle.std.proofs.Common.{subst, le-ltb, arith, max, replicate, ◌-◌, ◌++◌, ◌⊎◌}
 use Rattle.std.specs.List.{AllByRecursion}
 use Rattle.pad_model.specs.Checked.{is_name}
 use Rattle.pad_model.specs.Answers.{Answers}
@@ -8,83 +9,236 @@ use Rattle.pad_model.specs.Stamp.{Stamp}
 use Rattle.pad_model.specs.Visible.{visible}
 use Rattle.pad_model.specs.declared.op.Op.{Op}
 use Rattle.pad_model.specs.declared.refusal.Refusal.{Refusal}
+use Rattle.pad_model.specs.declared.refusal.Refusal.TheVariants.{Denied, Memory}
+use Rattle.pad_model.specs.declared.who.Version.{Version}
+use Rattle.pad_model.specs.declared.who.Who.TheVariants.{Peer}
 use Rattle.presence.specs.Presence.{Presence, with_caret}
 use Rattle.pad_core.specs.Counts.{characters_at}
-use Rattle.pad_core.specs.Machine.{IsOwned, IsPad, Machine, author_act, on_log}
-use Rattle.rights.specs.Rights.{Rights}
+use Rattle.pad_core.specs.Machine.{IsOwned, IsPad, Machine, Outcome, applied, author_act, author_outcome, name_of}
+use Rattle.pad_core.specs.Machine.{on_delivery, on_log, peer_act}
+use Rattle.pad_core.specs.Machine.Outcome.{writes}
+use Rattle.pad_core.specs.Exchange.{Stopped, push}
+use Rattle.pad_core.specs.Ran.{IsCutShort}
+use Rattle.pad_core.specs.Restart.{delivered_again, restore_operation}
+use Rattle.pad_core.specs.Times.{timed}
+use Rattle.op_log.specs.Times.{last_time}
+use Rattle.rights.specs.Rights.{Rights, can_have, hand as handed}
+use Rattle.rights.specs.declared.grantee.Grantee.{Grantee}
 use Rattle.rights.specs.declared.right.Right.{Right}
-use Rattle.rights.proofs.CallerLemmas.{grant_has}
-use Rattle.pad_core.specs.Edits.{before_place, edit}
-use Rattle.pad_core.specs.Grants.{grant}
+use Rattle.rights.proofs.CallerLemmas.{can_have_name, grant_has, hand_has}
+use Rattle.pad_core.specs.Edits.{before_place}
+use Rattle.pad_core.specs.Grants.{grant, hand, told_done}
 use Rattle.pad_core.specs.Presence.{put_caret}
+use Rattle.pad_core.proofs.Timed.{timed_same}
 use Rattle.pad_core.specs.declared.act.Act.{Act}
 use Rattle.pad_core.specs.declared.act.Act.TheVariants as act
-use Rattle.pad_core.specs.declared.act.Change.{Change}
 use Rattle.pad_core.specs.declared.owned.Owned.{Owned}
 use Rattle.pad_core.specs.declared.reply.PadReply.{PadReply}
 use Rattle.pad_core.specs.declared.reply.PadReply.TheVariants.{Done}
 
+-- the machine of its parts
+abbrev pub machine : Option Owned → ℕ → List Op → List Op → Presence → ℕ → List ℕ → Machine
+machine o replica log held p clock times = record {
+  owned = o;
+  replica = replica;
+  log = log;
+  held = held;
+  presence = p;
+  clock = clock;
+  times = times;
+}
+
+-- where the times are filled up to a log's length, each operation that the log got has its time
+pub filled_timed : (clock : ℕ) (log new : List Op) (times filled : List ℕ) → length times ≡ length log →
+    filled ≡ times ++ replicate (length new - length times) (max clock (last_time times)) →
+    filled ≡ timed clock log new times
+filled_timed clock log new times filled long is =
+    is ∙ ap (λ n. times ++ replicate (length new - n) (max clock (last_time times))) long
+
 -- an act on the log
-pub log_answers : (o : Option Owned) (replica : ℕ) (log new held : List Op) (p : Presence)
+pub log_answers : (o : Option Owned) (replica : ℕ) (log new held : List Op) (p : Presence) (clock : ℕ)
+    (times filled : List ℕ)
     (expected : Result PadReply Refusal × List Op) (result : Result PadReply Refusal) →
-    Answers log expected result new →
-    (let m : Machine = record { owned = o; replica = replica; log = log; held = held; presence = p } in
-    Answers m (on_log m expected) result
-    (record { owned = o; replica = replica; log = new; held = held; presence = p }))
-log_answers o replica log new held p expected result (inl h) =
+    filled ≡ timed clock log new times → Answers log expected result new →
+    Answers (machine o replica log held p clock times) (on_log (machine o replica log held p clock times) expected)
+    result (machine o replica new held p clock filled)
+log_answers o replica log new held p clock times filled expected result fills (inl h) =
     inl (
       h.0,
-      ap (λ l. let m : Machine = record { owned = o; replica = replica; log = l; held = held; presence = p } in
-          m) h.1,
+      ap₂ (λ (l : List Op) (ts : List ℕ). machine o replica l held p clock ts) h.1
+          (fills ∙ ap (λ l. timed clock log l times) h.1 ∙ timed_same clock log times),
       h.2,
     )
-log_answers o replica log new held p expected result (inr h) =
-    inr (ap (λ d. (
+log_answers o replica log new held p clock times filled expected result fills (inr h) =
+    inr (
+    ap (λ d. (
       d.0,
-      (let m : Machine = record { owned = o; replica = replica; log = d.1; held = held; presence = p }
-          in m),
-    )) h)
+      machine o replica d.1 held p clock (timed clock log d.1 times),
+    )) h
+    ∙ ap (λ (ts : List ℕ). (let r : Result PadReply Refusal = result in r, machine o replica new held p clock ts))
+    (sym fills)
+    )
 
--- an edit by an author
-pub edit_answers : (o : Option Owned) (replica : ℕ) (log new held : List Op) (p : Presence) (owned : Owned)
-    (name : List ℕ) (visit rev : ℕ) (this : Act) (changes lent : List Change) (result : Result PadReply Refusal)
-    (m : Machine) →
-    this ≡ act.Edit rev changes → lent ≡ changes → Answers log (edit replica name rev lent log) result new →
-    (let k : Machine = record { owned = o; replica = replica; log = log; held = held; presence = p } in k) ≡ m →
-    Answers m (author_act owned name visit this m) result
-    (record { owned = o; replica = replica; log = new; held = held; presence = p })
-edit_answers o replica log new held p owned name visit rev this changes lent result m is read done same =
+-- an act of an author that changes the log
+pub write_answers : (o : Option Owned) (replica : ℕ) (log new held : List Op) (p : Presence) (clock : ℕ)
+    (times filled : List ℕ) (owned : Owned) (name : List ℕ) (visit : ℕ) (this : Act)
+    (expected : Result PadReply Refusal × List Op) (result : Result PadReply Refusal) (m : Machine) →
+    author_outcome owned name visit this (machine o replica log held p clock times) ≡ writes expected →
+    length times ≡ length log →
+    filled ≡ times ++ replicate (length new - length times) (max clock (last_time times)) →
+    Answers log expected result new → machine o replica log held p clock times ≡ m → m.owned ≡ Some owned →
+    Answers m (author_act owned name visit this m) result (machine o replica new held p clock filled)
+write_answers o replica log new held p clock times filled owned name visit this expected result m outcome long fills
+    done same named =
     subst (λ (k : Machine). Answers k (author_act owned name visit this k) result
-    (record { owned = o; replica = replica; log = new; held = held; presence = p })) same
-    (subst (λ (a : Act). (let k : Machine =
-    record { owned = o; replica = replica; log = log; held = held; presence = p } in
-    Answers k (author_act owned name visit a k) result
-    (record { owned = o; replica = replica; log = new; held = held; presence = p }))) (sym is)
-    (log_answers o replica log new held p (edit replica name rev changes log) result
-    (subst (λ (l : List Change). Answers log (edit replica name rev l log) result new) read done)))
+    (machine o replica new held p clock filled)) same
+    (subst (λ (x : Outcome). Answers (machine o replica log held p clock times)
+    (applied (Some owned) x (machine o replica log held p clock times)) result
+    (machine o replica new held p clock filled)) (sym outcome)
+    (log_answers o replica log new held p clock times filled expected result
+    (filled_timed clock log new times filled long fills) done))
 
--- who has a right has a name, also after a grant to a name
-pub granted_names : (now : ℕ) (name : List ℕ) (given : Option Right) (old new : Rights)
-    (result : Result PadReply Refusal) → Answers old (grant now name given old) result new → IsTrue (is_name name) →
+-- an operation that a peer pushes
+pub push_answers : (o : Option Owned) (replica : ℕ) (log new held held' : List Op) (p : Presence) (clock : ℕ)
+    (times filled : List ℕ) (name : List ℕ) (number : ℕ) (version : Version) (this : Act) (op : Op)
+    (result : Result PadReply Refusal) (m : Machine) →
+    this ≡ act.Push op → length times ≡ length log →
+    filled ≡ times ++ replicate (length new - length times) (max clock (last_time times)) →
+    Answers (log, held) (push replica op (log, held)) result (new, held')
+    ⊎ ((result ≡ Err Memory) × Stopped replica op (log, held) (new, held')) →
+    machine o replica log held p clock times ≡ m → name_of m.owned ≡ Some name →
+    Answers m (peer_act version this m) result (machine o replica new held' p clock filled)
+    ⊎ ((result ≡ Err Memory) × IsCutShort name (Peer number version) this m
+    (machine o replica new held' p clock filled))
+push_answers o replica log new held held' p clock times filled name number version this op result m is long fills done
+    same named =
+    subst (λ (k : Machine). Goal k) same (by_end done (subst (λ (k : Machine). name_of k.owned ≡ Some name) (sym same)
+    named))
+  where
+    Goal : Machine → Type 0
+    Goal k = Answers k (peer_act version this k) result (machine o replica new held' p clock filled)
+        ⊎ ((result ≡ Err Memory) × IsCutShort name (Peer number version) this k
+        (machine o replica new held' p clock filled))
+
+    old : Machine
+    old = machine o replica log held p clock times
+
+    fit : filled ≡ timed clock log new times
+    fit = filled_timed clock log new times filled long fills
+
+    by_answer : Answers (log, held) (push replica op (log, held)) result (new, held') →
+        Answers old (on_delivery old (push replica op (log, held))) result (machine o replica new held' p clock filled)
+    by_answer (inl h) = inl (
+      h.0,
+      (let kept : new ≡ log = ap (λ (b : List Op × List Op). b.0) h.1 in
+          ap₂ (λ (b : List Op × List Op) (ts : List ℕ). machine o replica b.0 b.1 p clock ts) h.1
+          (fit ∙ ap (λ l. timed clock log l times) kept ∙ timed_same clock log times)),
+      h.2,
+    )
+    by_answer (inr h) = inr (
+        ap (λ d. (d.0, machine o replica d.1.0 d.1.1 p clock (timed clock log d.1.0 times))) h
+        ∙ ap (λ (ts : List ℕ). (let r : Result PadReply Refusal = result in r, machine o replica new held' p clock ts))
+        (sym fit)
+        )
+
+    by_end : Answers (log, held) (push replica op (log, held)) result (new, held')
+        ⊎ ((result ≡ Err Memory) × Stopped replica op (log, held) (new, held')) → name_of o ≡ Some name → Goal old
+    by_end (inl h) called = inl (subst (λ (a : Act). Answers old (peer_act version a old) result
+        (machine o replica new held' p clock filled)) (sym is) (by_answer h))
+    by_end (inr h) called = inr (
+      h.0,
+      (tt, called, op, is, h.1, ap (machine o replica new held' p clock) fit),
+    )
+
+-- an operation that is delivered again
+pub restored_answers : (o : Option Owned) (replica : ℕ) (log new held : List Op) (p : Presence) (clock : ℕ)
+    (times filled : List ℕ) (op : Op) (at : ℕ) (result : Result (Unit {0}) Refusal) (m : Machine) →
+    length times ≡ length log →
+    filled ≡ times ++ replicate (length new - length times) (max at (last_time times)) →
+    Answers log (delivered_again op log) result new → machine o replica log held p clock times ≡ m →
+    Answers m (restore_operation op at m) result (machine o replica new held p clock filled)
+restored_answers o replica log new held p clock times filled op at result m long fills done same =
+    subst (λ (k : Machine). Answers k (restore_operation op at k) result
+    (machine o replica new held p clock filled)) same (by_end done)
+  where
+    old : Machine
+    old = machine o replica log held p clock times
+
+    fit : filled ≡ timed at log new times
+    fit = filled_timed at log new times filled long fills
+
+    by_end : Answers log (delivered_again op log) result new →
+        Answers old (restore_operation op at old) result (machine o replica new held p clock filled)
+    by_end (inl h) = inl (
+      h.0,
+      ap₂ (λ (l : List Op) (ts : List ℕ). machine o replica l held p clock ts) h.1
+          (fit ∙ ap (λ l. timed at log l times) h.1 ∙ timed_same at log times),
+      h.2,
+    )
+    by_end (inr h) = inr (
+        ap (λ d. (d.0, machine o replica d.1 held p clock (timed at log d.1 times))) h
+        ∙ ap (λ (ts : List ℕ). (let r : Result (Unit {0}) Refusal = result in r, machine o replica new held p clock ts))
+        (sym fit)
+        )
+
+-- each author with a right has a name, also after a grant to who can have it
+pub granted_names : (now : ℕ) (grantee : Grantee) (given : Option Right) (old new : Rights)
+    (result : Result PadReply Refusal) → Answers old (grant now grantee given old) result new →
+    can_have grantee given ≡ true →
     IsTrue (is_name old.owner) × AllByRecursion (λ e. IsTrue (is_name e.0)) old.grants → IsTrue (is_name new.owner)
     × AllByRecursion (λ e. IsTrue (is_name e.0)) new.grants
-granted_names now name given old new result (inl h) one kept =
+granted_names now grantee given old new result (inl h) can kept =
     subst (λ (b : Rights). IsTrue (is_name b.owner) × AllByRecursion (λ e. IsTrue (is_name e.0)) b.grants)
     (sym h.1) kept
-granted_names now name given old new result (inr h) one kept =
+granted_names now grantee given old new result (inr h) can kept =
     subst (λ (b : Rights). IsTrue (is_name b.owner) × AllByRecursion (λ e. IsTrue (is_name e.0)) b.grants)
-    (ap (λ p. p.1) h) (grant_has (λ n. IsTrue (is_name n)) old name given one kept)
+    (ap (λ p. p.1) h) (grant_has (λ n. IsTrue (is_name n)) old grantee given (can_have_name grantee given can) kept)
 
 -- a pad whose rights were changed
 pub IsPad-granted : (o : Option Owned) (replica : ℕ) (held : List Op) (p : Presence) (owned : Owned) (now : ℕ)
-    (name : List ℕ) (given : Option Right) (new : Rights) (result : Result PadReply Refusal) → IsPad o replica held p →
-    o ≡ Some owned → IsTrue (is_name name) →
-    Answers owned.rights (grant now name given owned.rights) result new →
+    (grantee : Grantee) (given : Option Right) (new : Rights) (result : Result PadReply Refusal) →
+    IsPad o replica held p → o ≡ Some owned → can_have grantee given ≡ true →
+    Answers owned.rights (grant now grantee given owned.rights) result new →
     IsPad (Some (record owned { rights = new })) replica held p
-IsPad-granted o replica held p owned now name given new result kept is one done = record {
+IsPad-granted o replica held p owned now grantee given new result kept is can done = record {
   named =
       let was = subst (λ (x : Option Owned). IsOwned x p) is kept.named in
-      let names = granted_names now name given owned.rights new result done one (was.0, was.1) in
+      let names = granted_names now grantee given owned.rights new result done can (was.0, was.1) in
+      (names.0, names.1, was.2);
+  replica_low = kept.replica_low;
+  replica_high = kept.replica_high;
+  waiting = kept.waiting;
+}
+
+-- the same after a hand-over by one name to another
+hand_kept : (now : ℕ) (author : List ℕ) (old : Rights) (by_owner : Bool) → IsTrue (is_name author) →
+    IsTrue (is_name old.owner) × AllByRecursion (λ e. IsTrue (is_name e.0)) old.grants →
+    (let after = (cond by_owner (told_done now (handed old author).0, (handed old author).1)
+    (let r : Result PadReply Refusal × Rights = (Err Denied, old) in r)).1 in IsTrue (is_name after.owner)
+    × AllByRecursion (λ e. IsTrue (is_name e.0)) after.grants)
+hand_kept now author old true one kept = hand_has (λ n. IsTrue (is_name n)) old author one kept
+hand_kept now author old false one kept = kept
+
+handed_names : (now : ℕ) (asker author : List ℕ) (old new : Rights) (result : Result PadReply Refusal) →
+    Answers old (hand now asker author old) result new → IsTrue (is_name author) →
+    IsTrue (is_name old.owner) × AllByRecursion (λ e. IsTrue (is_name e.0)) old.grants → IsTrue (is_name new.owner)
+    × AllByRecursion (λ e. IsTrue (is_name e.0)) new.grants
+handed_names now asker author old new result (inl h) one kept =
+    subst (λ (b : Rights). IsTrue (is_name b.owner) × AllByRecursion (λ e. IsTrue (is_name e.0)) b.grants)
+    (sym h.1) kept
+handed_names now asker author old new result (inr h) one kept =
+    subst (λ (b : Rights). IsTrue (is_name b.owner) × AllByRecursion (λ e. IsTrue (is_name e.0)) b.grants)
+    (ap (λ p. p.1) h) (hand_kept now author old (bytes_eq asker old.owner) one kept)
+
+-- a pad that was handed over
+pub IsPad-handed : (o : Option Owned) (replica : ℕ) (held : List Op) (p : Presence) (owned : Owned) (now : ℕ)
+    (asker author : List ℕ) (new : Rights) (result : Result PadReply Refusal) → IsPad o replica held p →
+    o ≡ Some owned → IsTrue (is_name author) → Answers owned.rights (hand now asker author owned.rights) result new →
+    IsPad (Some (record owned { rights = new })) replica held p
+IsPad-handed o replica held p owned now asker author new result kept is one done = record {
+  named =
+      let was = subst (λ (x : Option Owned). IsOwned x p) is kept.named in
+      let names = handed_names now asker author owned.rights new result done one (was.0, was.1) in
       (names.0, names.1, was.2);
   replica_low = kept.replica_low;
   replica_high = kept.replica_high;

@@ -8,7 +8,8 @@ use Rattle.pad_model.specs.Checked.{is_name}
 use Rattle.pad_model.specs.declared.refusal.Refusal.{Refusal}
 use Rattle.pad_model.specs.declared.refusal.Refusal.TheVariants.{NotJoined, BadName}
 use Rattle.pad_model.proofs.Newer.{split}
-use Rattle.rights.specs.Rights.{may}
+use Rattle.rights.specs.Rights.{can_have, may}
+use Rattle.rights.specs.declared.grantee.Grantee.{Grantee}
 use Rattle.rights.proofs.CallerLemmas.{may_has}
 use Rattle.rights.specs.declared.right.Right.{Right}
 use Rattle.rights.specs.declared.right.Right.TheVariants as right
@@ -78,18 +79,26 @@ pub admitted_name : (o : Option Owned) (p : Presence) (name : List ℕ) (visit :
     IsOwned o p → IsAdmitted o p name visit act → need_of act ≡ WithRight least → IsTrue (is_name name)
 admitted_name None p name visit act least owned h e = absurd h
 admitted_name (Some o) p name visit act least owned h e =
-    may_has (λ n. IsTrue (is_name n)) o.rights name least owned.0 owned.1 (not_denied (visit_refusal p name visit false)
-    (may o.rights name least) (need_met o p name visit act (WithRight least) h e)).1
+    may_has (λ n. IsTrue (is_name n)) o.rights name least owned.0 owned.1 (λ named. named)
+    (not_denied (visit_refusal p name visit false) (may o.rights name least)
+    (need_met o p name visit act (WithRight least) h e)).1
 
 good_name : (b : Bool) → (not b) ≡ false → b ≡ true
 good_name true q = refl
 good_name false q = absurd (Rattle.std.proofs.lemmas.Bool.true≢false q)
 
--- who is granted a right has a name
-pub admitted_grant : (o : Option Owned) (p : Presence) (name : List ℕ) (visit : Option ℕ) (author : List ℕ)
-    (given : Option Right) → IsAdmitted o p name visit (act.Grant author given) → IsTrue (is_name author)
-admitted_grant None p name visit author given h = absurd h
-admitted_grant (Some o) p name visit author given h = good_name (is_name author)
+-- who is granted a right can have it
+pub admitted_grant : (o : Option Owned) (p : Presence) (name : List ℕ) (visit : Option ℕ) (grantee : Grantee)
+    (given : Option Right) → IsAdmitted o p name visit (act.Grant grantee given) → can_have grantee given ≡ true
+admitted_grant None p name visit grantee given h = absurd h
+admitted_grant (Some o) p name visit grantee given h = good_name (can_have grantee given)
+    (unless (not (can_have grantee given)) BadName (need_refusal o.rights p name visit (WithRight right.Own)) h).0
+
+-- whom a pad is handed over to has a name
+pub admitted_hand : (o : Option Owned) (p : Presence) (name : List ℕ) (visit : Option ℕ) (author : List ℕ) →
+    IsAdmitted o p name visit (act.Hand author) → IsTrue (is_name author)
+admitted_hand None p name visit author h = absurd h
+admitted_hand (Some o) p name visit author h = good_name (is_name author)
     (unless (not (is_name author)) BadName (need_refusal o.rights p name visit (WithRight right.Own)) h).0
 
 -- a pad on which somebody was admitted has a name, so that what is kept of its rights does not depend on who is present

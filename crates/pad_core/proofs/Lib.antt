@@ -26,4 +26,6 @@ pub mod Runs
 pub mod SameSet
 pub mod Sessions
 pub mod Shows
+pub mod Timed
+pub mod TimesRead
 pub mod Told

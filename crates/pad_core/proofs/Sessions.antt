@@ -19,10 +19,19 @@ use Rattle.pad_core.specs.declared.reply.PadReply.{PadReply}
 
 -- a step on a pad of its name is the session's
 step_here : (owned : Owned) (who : Who) (visit : Option ℕ) (this : Act) (pad : List ℕ) (o : Option Owned) (replica : ℕ)
-    (log held : List Op) (p : Presence) → o ≡ Some owned → bytes_eq owned.name pad ≡ true →
-    (let m : Machine = record { owned = o; replica = replica; log = log; held = held; presence = p } in
+    (log held : List Op) (p : Presence) (clock : ℕ) (times : List ℕ) → o ≡ Some owned →
+    bytes_eq owned.name pad ≡ true →
+    (let m : Machine = record {
+      owned = o;
+      replica = replica;
+      log = log;
+      held = held;
+      presence = p;
+      clock = clock;
+      times = times;
+    } in
     step pad who visit this m ≡ session_step owned who visit this m)
-step_here owned who visit this pad o replica log held p is named = rw (is, named) refl
+step_here owned who visit this pad o replica log held p clock times is named = rw (is, named) refl
 
 -- so is what it leaves
 stepped_here : (owned : Owned) (event : PadEvent) (who : Who) (m new : Machine) (result : Result PadReply Refusal) →
@@ -35,7 +44,8 @@ stepped_here : (owned : Owned) (event : PadEvent) (who : Who) (m new : Machine) 
     ⊎ (event_step event m ≡ (result, new))
 stepped_here owned event who m new result is same named by takes (inl h) =
     let here = ap (λ (w : Who). step event.pad.now w event.visit event.act.now m) by
-    ∙ step_here owned who event.visit event.act.now event.pad.now m.owned m.replica m.log m.held m.presence is named in
+    ∙ step_here owned who event.visit event.act.now event.pad.now m.owned m.replica m.log m.held m.presence
+    m.clock m.times is named in
     inl (
       h.0,
       h.1,
@@ -46,7 +56,8 @@ stepped_here owned event who m new result is same named by takes (inl h) =
     )
 stepped_here owned event who m new result is same named by takes (inr h) =
     let here = ap (λ (w : Who). step event.pad.now w event.visit event.act.now m) by
-    ∙ step_here owned who event.visit event.act.now event.pad.now m.owned m.replica m.log m.held m.presence is named in
+    ∙ step_here owned who event.visit event.act.now event.pad.now m.owned m.replica m.log m.held m.presence
+    m.clock m.times is named in
     inr (here ∙ h)
 
 -- what is answered exactly is out of memory at no answer

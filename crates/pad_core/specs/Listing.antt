@@ -41,6 +41,8 @@ emptied m = record {
   log = [];
   held = [];
   presence = nobody_present m.presence.limit;
+  clock = m.clock;
+  times = [];
 }
 
 -- a pad that is listed for somebody, or the cell without it

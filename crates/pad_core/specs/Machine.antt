@@ -11,15 +11,19 @@ use Rattle.pad_model.specs.declared.refusal.Refusal.{Refusal}
 use Rattle.pad_model.specs.declared.refusal.Refusal.TheVariants.{NoSession, NotPeer, NoPad, BadName, NotJoined, Joined}
 use Rattle.pad_model.specs.declared.refusal.Refusal.TheVariants.{Denied}
 use Rattle.pad_model.specs.declared.limits.TheConstants.{MAX_REPLICA}
-use Rattle.rights.specs.Rights.{Rights, may}
+use Rattle.op_log.specs.Times.{Times}
+use Rattle.rights.specs.Rights.{Rights, can_have, may}
 use Rattle.rights.specs.declared.right.Right.TheVariants as right
 use Rattle.presence.specs.Presence.{Presence, is_joined_by, joined}
 use Rattle.pad_core.specs.Edits.{insert, delete, edit}
 use Rattle.pad_core.specs.Exchange.{read_vector, pull, push}
-use Rattle.pad_core.specs.Grants.{grant, read_rights}
+use Rattle.named_revisions.specs.declared.named_revision.NamedRevision.{NamedRevision}
+use Rattle.pad_core.specs.Grants.{grant, hand, read_rights}
+use Rattle.pad_core.specs.Marks.{mark, read_marks}
 use Rattle.pad_core.specs.Notes.{comment, resolve}
 use Rattle.pad_core.specs.Presence.{join, leave, put_caret, read_who}
-use Rattle.pad_core.specs.Reads.{read_changes, read_comments, read_entries, read_revs, read_runs, read_text}
+use Rattle.pad_core.specs.Reads.{read_birth, read_changes, read_comments, read_entries, read_revs, read_revs_at, read_runs, read_text, read_times}
+use Rattle.pad_core.specs.Times.{time_now, timed}
 use Rattle.pad_core.specs.declared.admit.Need.{Need}
 use Rattle.pad_core.specs.declared.admit.Need.TheVariants.{NewVisit, AnyVisit, Visit, PeerSession}
 use Rattle.pad_core.specs.declared.owned.Owned.{Owned}
@@ -31,13 +35,20 @@ use Rattle.pad_core.specs.declared.event.Claim.{Claim}
 use Rattle.pad_core.specs.declared.event.Claim.TheVariants.{Created, Exists, Other}
 
 -- a pad: its name and rights, if it has them, its server's replica number, its operations in the order of delivery,
--- those that wait for others, and who is present
+-- those that wait for others, who is present, the clock that it was told last, and the time of each operation, both in
+-- milliseconds since 1970
 pub record Machine : Type 0 where
   pub owned : Option Owned
   pub replica : ℕ
   pub log : List Op
   pub held : List Op
   pub presence : Presence
+  pub clock : ℕ
+  pub times : List ℕ
+
+-- the clock goes on, or back
+abbrev pub tick : ℕ → Machine → Machine
+tick clock m = record m { clock = clock }
 
 -- the revision that the last operation made
 abbrev pub now_of : Machine → ℕ
@@ -57,18 +68,25 @@ need_of (act.Runs rev) = Visit right.Read
 need_of (act.Comments rev) = Visit right.Read
 need_of (act.Changes rev to wait) = Visit right.Read
 need_of act.Revs = Visit right.Read
-need_of (act.Entries from count) = Visit right.Read
+need_of (act.Entries from count timed) = Visit right.Read
+need_of (act.Times from step count) = Visit right.Read
+need_of (act.RevsAt moments) = Visit right.Read
+need_of (act.Birth rev at) = Visit right.Read
 need_of (act.Caret rev at) = Visit right.Read
 need_of act.Who = Visit right.Read
-need_of (act.Grant author given) = Visit right.Own
+need_of (act.Grant grantee given) = Visit right.Own
+need_of (act.Hand author) = Visit right.Own
 need_of act.Rights = Visit right.Read
+need_of (act.Mark rev text) = Visit right.Write
+need_of act.Marks = Visit right.Read
 need_of act.Vector = PeerSession
 need_of (act.Push op) = PeerSession
 need_of (act.Pull seen max batch) = PeerSession
 
--- whether an act names an author by an invalid name
+-- whether an act names an author by an invalid name, or everyone as an owner
 abbrev pub names_badly : Act → Bool
-names_badly (act.Grant author given) = not (is_name author)
+names_badly (act.Grant grantee given) = not (can_have grantee given)
+names_badly (act.Hand author) = not (is_name author)
 names_badly other = false
 
 -- why a visit does not suit, if so: it is present and the author's, and who joins has none
@@ -131,12 +149,17 @@ pub data Outcome : Type 0 where
   visits : Result PadReply Refusal × Presence → Outcome
   -- the rights
   grants : Result PadReply Refusal × Rights → Outcome
+  -- which revisions have a name
+  names : Result PadReply Refusal × List NamedRevision → Outcome
   -- the log and what is held
   delivers : Result PadReply Refusal × (List Op × List Op) → Outcome
 
--- an act that changes the log alone
+-- an act that changes the log, and the times with it
 abbrev pub on_log : Machine → Result PadReply Refusal × List Op → Result PadReply Refusal × Machine
-on_log m done = (done.0, record m { log = done.1 })
+on_log m done = (
+  done.0,
+  record m { log = done.1; times = timed m.clock m.log done.1 m.times },
+)
 
 -- an act that changes who is present
 abbrev pub on_presence : Machine → Result PadReply Refusal × Presence
@@ -153,10 +176,27 @@ abbrev pub on_rights : Option Owned → Machine → Result PadReply Refusal × R
     → Result PadReply Refusal × Machine
 on_rights owned m done = (done.0, record m { owned = with_rights owned done.1 })
 
--- an act that changes the log and what is held
+-- a pad with other named revisions, if it has a name itself
+abbrev pub with_marks : Option Owned → List NamedRevision → Option Owned
+with_marks None marks = None
+with_marks (Some owned) marks = Some (record owned { marks = marks })
+
+-- an act that names a revision
+abbrev pub on_marks : Option Owned → Machine → Result PadReply Refusal × List NamedRevision
+    → Result PadReply Refusal × Machine
+on_marks owned m done = (done.0, record m { owned = with_marks owned done.1 })
+
+-- an act that changes the log, and the times with it, and what is held
 abbrev pub on_delivery : Machine → Result PadReply Refusal × (List Op × List Op)
     → Result PadReply Refusal × Machine
-on_delivery m done = (done.0, record m { log = done.1.0; held = done.1.1 })
+on_delivery m done = (
+  done.0,
+  record m {
+    log = done.1.0;
+    held = done.1.1;
+    times = timed m.clock m.log done.1.0 m.times;
+  },
+)
 
 -- the answer and the pad after an act on a pad of this name and these rights, by what the act comes to
 abbrev pub applied : Option Owned → Outcome → Machine → Result PadReply Refusal × Machine
@@ -164,6 +204,7 @@ applied owned (reads answer) m = (answer, m)
 applied owned (writes done) m = on_log m done
 applied owned (visits done) m = on_presence m done
 applied owned (grants done) m = on_rights owned m done
+applied owned (names done) m = on_marks owned m done
 applied owned (delivers done) m = on_delivery m done
 
 -- what each act of an author comes to
@@ -185,13 +226,27 @@ author_outcome owned name visit (act.Runs rev) m = reads (read_runs rev m.log)
 author_outcome owned name visit (act.Comments rev) m = reads (read_comments rev m.log)
 author_outcome owned name visit (act.Changes rev to wait) m = reads (read_changes rev to wait m.log)
 author_outcome owned name visit act.Revs m = reads (read_revs m.log)
-author_outcome owned name visit (act.Entries from count) m = reads (read_entries from count m.log)
+author_outcome owned name visit (act.Entries from count timed) m = reads
+    (read_entries from count timed m.log m.times)
+author_outcome owned name visit (act.Times from step count) m = reads
+    (read_times from step count m.log m.times)
+author_outcome owned name visit (act.RevsAt moments) m = reads (read_revs_at moments m.log m.times)
+author_outcome owned name visit (act.Birth rev at) m = reads (read_birth rev at m.log m.times)
 author_outcome owned name visit (act.Caret rev at) m = visits
     (put_caret rev at visit m.log m.presence)
 author_outcome owned name visit act.Who m = reads (read_who m.replica m.log m.presence)
-author_outcome owned name visit (act.Grant author given) m = grants
-    (grant (now_of m) author given owned.rights)
+author_outcome owned name visit (act.Grant grantee given) m = grants
+    (grant (now_of m) grantee given owned.rights)
+author_outcome owned name visit (act.Hand author) m = grants
+    (hand (now_of m) name author owned.rights)
 author_outcome owned name visit act.Rights m = reads (read_rights (now_of m) owned.rights)
+author_outcome owned name visit (act.Mark rev text) m = names (mark (now_of m) (record {
+  rev = rev;
+  author = name;
+  at = time_now m.clock m.times;
+  text = text;
+}) owned.marks)
+author_outcome owned name visit act.Marks m = reads (read_marks (now_of m) owned.marks)
 author_outcome owned name visit other m = reads (Err NotPeer)
 
 -- what each act of a peer comes to
@@ -244,6 +299,14 @@ name_of (Some owned) = Some owned.name
 abbrev pub nobody_present : ℕ → Presence
 nobody_present limit = record { limit = limit; given = 0; present = [] }
 
+-- what a claim gives a pad: a name and an owner; nobody else has a right, and no revision a name
+abbrev pub new_owned : List ℕ → List ℕ → Owned
+new_owned name owner = record {
+  name = name;
+  rights = record { owner = owner; everyone = None; grants = [] };
+  marks = [];
+}
+
 -- a claim of a pad for a name and an owner, who is then present
 abbrev pub claim : List ℕ → List ℕ → Machine → Result Claim Refusal × Machine
 claim name owner m = claim_of m.owned
@@ -252,10 +315,7 @@ claim name owner m = claim_of m.owned
     claim_of None = (
       Ok (Created (m.presence.given + 1)),
       record m {
-        owned = Some (record {
-          name = name;
-          rights = record { owner = owner; grants = [] };
-        });
+        owned = Some (new_owned name owner);
         presence = joined owner m.presence;
       },
     )
@@ -266,7 +326,8 @@ abbrev pub IsAdmitted : Option Owned → Presence → List ℕ → Option ℕ �
 IsAdmitted None p name visit act = ⊥
 IsAdmitted (Some owned) p name visit act = author_refusal owned.rights p name visit act ≡ None
 
--- a pad without a name was never joined; one with a name has a well-formed one, and so has whoever has a right on it
+-- a pad without a name was never joined; one with a name has a well-formed one, and so has each author with a right on
+-- it
 abbrev pub IsOwned : Option Owned → Presence → Type 0
 IsOwned None presence = presence ≡ nobody_present presence.limit
 IsOwned (Some owned) presence = IsTrue (is_name owned.rights.owner)
@@ -279,3 +340,14 @@ pub record IsPad (owned : Option Owned) (replica : ℕ) (held : List Op) (presen
   pub replica_low : 1 ≤ replica
   pub replica_high : replica ≤ MAX_REPLICA
   pub waiting : AllByRecursion (λ op. IsTrue (is_checked op)) held
+
+-- a pad has a time for each operation, and room for as many
+pub record IsTimed (log : List Op) (times : Times) : Type 0 where
+  pub each : length times.times ≡ length log
+  pub roomy : length log ≤ times.room
+
+-- what a pad is made of fits together
+pub record IsWhole (owned : Option Owned) (replica : ℕ) (held : List Op) (presence : Presence)
+    (log : List Op) (times : Times) : Type 0 where
+  pub kept : IsPad owned replica held presence
+  pub timed : IsTimed log times

@@ -8,6 +8,7 @@ use Rattle.pad_model.specs.declared.who.Who.{Who}
 use Rattle.pad_model.specs.declared.who.Who.TheVariants.{Nobody, Author, Peer}
 use Rattle.pad_core.specs.Exchange.{Stopped}
 use Rattle.pad_core.specs.Machine.{Machine, name_of, step}
+use Rattle.pad_core.specs.Times.{timed}
 use Rattle.pad_core.specs.declared.act.Act.{Act}
 use Rattle.pad_core.specs.declared.act.Act.TheVariants as act
 use Rattle.pad_core.specs.declared.event.PadEvent.{PadEvent}
@@ -25,7 +26,11 @@ abbrev pub IsCutShort : List ℕ → Who → Act → Machine → Machine → Typ
 IsCutShort pad who this old new =
     IsPeer who × (name_of old.owned ≡ Some pad) × (op : Op) × (this ≡ act.Push op)
     × Stopped old.replica op (old.log, old.held) (new.log, new.held)
-    × (new ≡ record old { log = new.log; held = new.held })
+    × (new ≡ record old {
+      log = new.log;
+      held = new.held;
+      times = timed old.clock old.log new.log old.times;
+    })
 
 -- whether an act may take memory: the end of a visit, a caret and the length of a pad take none
 abbrev pub takes_memory : Act → Bool

@@ -1,5 +1,5 @@
 -- How a pad is restored after a restart, from what was done on it before.
-use Rattle.std.specs.Prelude.{ℕ, ◌+◌, ◌==◌, Bool, not, ◌&&◌, if◌then◌else◌, List, [], ◌∷◌, ◌++◌, Option, Some, None}
+use Rattle.std.specs.Prelude.{ℕ, ◌+◌, ◌==◌, Bool, not, ◌&&◌, if◌then◌else◌, List, [], ◌∷◌, ◌++◌, length, Option, Some, None}
 use Rattle.std.specs.Prelude.{Result, Ok, Err}
 use Rattle.pad_model.specs.Checked.{is_checked, is_name}
 use Rattle.pad_model.specs.Seen.{count_in}
@@ -8,12 +8,16 @@ use Rattle.pad_model.specs.declared.op.OpName.{OpName}
 use Rattle.pad_model.specs.declared.seen.Counted.{Counted}
 use Rattle.pad_model.specs.declared.refusal.Refusal.{Refusal}
 use Rattle.pad_model.specs.declared.refusal.Refusal.TheVariants.{NoPad, PadExists, BadName, BadOp, PeerFault}
-use Rattle.rights.specs.Rights.{grant}
+use Rattle.rights.specs.Rights.{can_have, grant, hand}
+use Rattle.rights.specs.declared.grantee.Grantee.{Grantee}
 use Rattle.rights.specs.declared.right.Right.{Right}
 use Rattle.presence.specs.Presence.{Presence, joined, left, spent_refusal}
 use Rattle.pad_core.specs.Counts.{vector_of}
 use Rattle.pad_core.specs.Delivered.{delivery_refusal}
 use Rattle.pad_core.specs.Machine.{Machine, claim}
+use Rattle.named_revisions.specs.declared.named_revision.NamedRevision.{NamedRevision}
+use Rattle.pad_core.specs.Marks.{named}
+use Rattle.pad_core.specs.Times.{timed}
 use Rattle.pad_core.specs.declared.owned.Owned.{Owned}
 
 -- the visit that was given last has ended
@@ -46,21 +50,55 @@ restore_claim name owner m = at m.owned
         else (Err BadName, m)
 
 -- a right is given, or taken away, if a pad has a name
-abbrev pub granted_again : List ℕ → Option Right → Option Owned
+abbrev pub granted_again : Grantee → Option Right → Option Owned
     → Result (Unit {0}) Refusal × Option Owned
-granted_again author right None = (Err NoPad, None)
-granted_again author right (Some owned) = let done = grant owned.rights author right in
+granted_again grantee right None = (Err NoPad, None)
+granted_again grantee right (Some owned) = let done = grant owned.rights grantee right in
     (done.0, Some (record owned { rights = done.1 }))
 
--- a right is given or taken away on a pad, for a name that an author can have
-abbrev pub restore_grant : List ℕ → Option Right → Machine → Result (Unit {0}) Refusal × Machine
-restore_grant author right m = at m.owned
+-- a right is given or taken away on a pad, if the grantee can have it
+abbrev pub restore_grant : Grantee → Option Right → Machine → Result (Unit {0}) Refusal × Machine
+restore_grant grantee right m = at m.owned
+  where
+    at : Option Owned → Result (Unit {0}) Refusal × Machine
+    at None = (Err NoPad, m)
+    at (Some owned) =
+        if not (can_have grantee right) then (Err BadName, m)
+        else (let done = granted_again grantee right (Some owned) in
+        (done.0, record m { owned = done.1 }))
+
+-- a pad is handed over to an author, if it has a name
+abbrev pub handed_again : List ℕ → Option Owned → Result (Unit {0}) Refusal × Option Owned
+handed_again author None = (Err NoPad, None)
+handed_again author (Some owned) = let done = hand owned.rights author in
+    (done.0, Some (record owned { rights = done.1 }))
+
+-- a pad is handed over to an author, for a name that an author can have
+abbrev pub restore_hand : List ℕ → Machine → Result (Unit {0}) Refusal × Machine
+restore_hand author m = at m.owned
   where
     at : Option Owned → Result (Unit {0}) Refusal × Machine
     at None = (Err NoPad, m)
     at (Some owned) =
         if not (is_name author) then (Err BadName, m)
-        else (let done = granted_again author right (Some owned) in
+        else (let done = handed_again author (Some owned) in
+        (done.0, record m { owned = done.1 }))
+
+-- a revision gets its name, if the pad has one itself
+abbrev pub marked_again : ℕ → NamedRevision → Option Owned → Result (Unit {0}) Refusal × Option Owned
+marked_again now this None = (Err NoPad, None)
+marked_again now this (Some owned) = let done = named now this owned.marks in
+    (done.0, Some (record owned { marks = done.1 }))
+
+-- a revision gets the name that it had, from an author who can have been one
+abbrev pub restore_mark : NamedRevision → Machine → Result (Unit {0}) Refusal × Machine
+restore_mark this m = at m.owned
+  where
+    at : Option Owned → Result (Unit {0}) Refusal × Machine
+    at None = (Err NoPad, m)
+    at (Some owned) =
+        if not (is_name this.author) then (Err BadName, m)
+        else (let done = marked_again (length m.log) this (Some owned) in
         (done.0, record m { owned = done.1 }))
 
 -- a visit is counted, no matter whose it was
@@ -93,10 +131,12 @@ delivered_again op log = unless_refused (restore_refusal op log)
     unless_refused (Some refusal) = (Err refusal, log)
     unless_refused None = (Ok tt, log ++ op ∷ [])
 
--- an operation is delivered again to a pad
-abbrev pub restore_operation : Op → Machine → Result (Unit {0}) Refusal × Machine
-restore_operation op m = let done = delivered_again op m.log in (done.0, record m { log = done.1 })
+-- an operation is delivered again to a pad, with the time that it had
+abbrev pub restore_operation : Op → ℕ → Machine → Result (Unit {0}) Refusal × Machine
+restore_operation op at m = let done = delivered_again op m.log in
+    (done.0, record m { log = done.1; times = timed at m.log done.1 m.times })
 
--- the pad after a restart: the same name, rights, operations and count of visits. Nobody is present and nothing is held
+-- the pad after a restart: the same name, rights, operations with their times, and count of visits. Nobody is present,
+-- nothing is held, and no clock was told
 abbrev pub restarted : Machine → Machine
-restarted m = record m { held = []; presence = record m.presence { present = [] } }
+restarted m = record m { held = []; presence = record m.presence { present = [] }; clock = 0 }

@@ -2,7 +2,7 @@
 ghost use Rattle.std.specs.Prelude.{◌≡◌};
 
 use pad_model::{Items, Name, Op, OpName, Seen, Text};
-use rights::Right;
+use rights::{Grantee, Right};
 use std::alloc::AllocError;
 
 /// One change of an edit, at a place of its revision.
@@ -71,10 +71,26 @@ pub enum Act {
     },
     /// Reads the length of the pad.
     Revs,
-    /// Reads what made up to `count` revisions from one on.
+    /// Reads what made up to `count` revisions from one on, and with `times` also when.
     Entries {
         from: u64,
         count: u64,
+        times: bool,
+    },
+    /// Reads when up to `count` revisions were made: one, and others each `step` further on.
+    Times {
+        from: u64,
+        step: u64,
+        count: u64,
+    },
+    /// Reads for some moments, in milliseconds since 1970, the last revisions that are not later.
+    RevsAt {
+        moments: Items<u64>,
+    },
+    /// Reads who wrote the character that a revision shows at a place, in which revision, and when.
+    Birth {
+        rev: u64,
+        at: u64,
     },
     /// Puts the visit's caret after the character before a place.
     Caret {
@@ -83,13 +99,24 @@ pub enum Act {
     },
     /// Reads who is present.
     Who,
-    /// Gives an author a right, or takes it away (None).
+    /// Gives an author or everyone a right, or takes it away (None).
     Grant {
-        author: Name,
+        grantee: Grantee,
         right: Option<Right>,
+    },
+    /// Hands the pad over to an author, who owns it from then on.
+    Hand {
+        author: Name,
     },
     /// Reads who has which right.
     Rights,
+    /// Gives a revision a name.
+    Mark {
+        rev: u64,
+        text: Text,
+    },
+    /// Reads which revisions have a name.
+    Marks,
     /// Reports to a peer how many operations of each origin were delivered.
     Vector,
     /// Takes an operation from a peer.
@@ -155,17 +182,35 @@ impl Clone for Act {
                 wait: *wait,
             },
             Act::Revs => Act::Revs,
-            Act::Entries { from, count } => Act::Entries {
+            Act::Entries { from, count, times } => Act::Entries {
                 from: *from,
                 count: *count,
+                times: *times,
             },
+            Act::Times { from, step, count } => Act::Times {
+                from: *from,
+                step: *step,
+                count: *count,
+            },
+            Act::RevsAt { moments } => Act::RevsAt {
+                moments: moments.clone()?,
+            },
+            Act::Birth { rev, at } => Act::Birth { rev: *rev, at: *at },
             Act::Caret { rev, at } => Act::Caret { rev: *rev, at: *at },
             Act::Who => Act::Who,
-            Act::Grant { author, right } => Act::Grant {
-                author: author.clone()?,
+            Act::Grant { grantee, right } => Act::Grant {
+                grantee: grantee.clone()?,
                 right: *right,
             },
+            Act::Hand { author } => Act::Hand {
+                author: author.clone()?,
+            },
             Act::Rights => Act::Rights,
+            Act::Mark { rev, text } => Act::Mark {
+                rev: *rev,
+                text: text.clone()?,
+            },
+            Act::Marks => Act::Marks,
             Act::Vector => Act::Vector,
             Act::Push { op } => Act::Push { op: op.clone()? },
             Act::Pull { seen, max, batch } => Act::Pull {

@@ -29,7 +29,8 @@ pub fn need_of(act: &Act) -> Need
     match act {
         Act::Join => Need::NewVisit,
         Act::Leave => Need::AnyVisit,
-        Act::Insert { .. } | Act::Delete { .. } | Act::Edit { .. } => Need::Visit(Right::Write),
+        Act::Insert { .. } | Act::Delete { .. } | Act::Edit { .. } | Act::Mark { .. } =>
+            Need::Visit(Right::Write),
         Act::Comment { .. } | Act::Resolve { .. } => Need::Visit(Right::Comment),
         Act::Text { .. }
         | Act::Runs { .. }
@@ -37,10 +38,14 @@ pub fn need_of(act: &Act) -> Need
         | Act::Changes { .. }
         | Act::Revs
         | Act::Entries { .. }
+        | Act::Times { .. }
+        | Act::RevsAt { .. }
+        | Act::Birth { .. }
         | Act::Caret { .. }
         | Act::Who
-        | Act::Rights => Need::Visit(Right::Read),
-        Act::Grant { .. } => Need::Visit(Right::Own),
+        | Act::Rights
+        | Act::Marks => Need::Visit(Right::Read),
+        Act::Grant { .. } | Act::Hand { .. } => Need::Visit(Right::Own),
         Act::Vector | Act::Push { .. } | Act::Pull { .. } => Need::PeerSession,
     }
 }
@@ -72,7 +77,7 @@ pub fn nobody_refusal(need: Need) -> Refusal
 }
 
 /// Why a session cannot do an act on any pad, or None: it is not of the kind that the act requires, or the act names an
-/// author by an invalid name.
+/// author by an invalid name, or everyone as an owner.
 pub fn session_refusal(who: &Who, act: &Act) -> Option<Refusal>
     ensures { result ≡ machine.session_refusal who.now act.now }
 {
@@ -98,12 +103,13 @@ fn suits(who: &Who, need: Need) -> bool
     }
 }
 
-/// Whether an act names an author by an invalid name.
+/// Whether an act names an author by an invalid name, or everyone as an owner.
 fn names_badly(act: &Act) -> bool
     ensures { result ≡ machine.names_badly act.now }
 {
     match act {
-        Act::Grant { author, .. } => !author.is_well_formed(),
+        Act::Grant { grantee, right } => !grantee.can_have(*right),
+        Act::Hand { author } => !author.is_well_formed(),
         _ => false,
     }
 }

@@ -6,23 +6,39 @@ ghost use Rattle.pad_model.specs.Answers.{Tells};
 
 use crate::reply::PadReply;
 use pad_model::{Name, Refusal};
-use rights::{Right, RightsBook};
+use rights::{Grantee, Right, RightsBook};
 use std::alloc::Global;
 
-/// Gives an author a right, or takes it away (None).
+/// Gives an author or everyone a right, or takes it away (None).
 pub fn grant(
     rights: &mut RightsBook,
     now: u64,
-    author: &Name,
+    grantee: &Grantee,
     right: Option<Right>,
 ) -> Result<PadReply, Refusal>
-    ensures { Answers rights.old (grants.grant now author.now right rights.old) result rights.new }
+    ensures { Answers rights.old (grants.grant now grantee.now right rights.old) result rights.new }
 {
-    rights.grant(author, right)?;
+    rights.grant(grantee, right)?;
     Ok(PadReply::Done { now })
 }
 
-/// All names with their rights.
+/// Hands a pad over to an author. Only the owner itself may: another author with the right to own is denied it.
+pub fn hand(
+    rights: &mut RightsBook,
+    now: u64,
+    asker: &Name,
+    author: &Name,
+) -> Result<PadReply, Refusal>
+    ensures { Answers rights.old (grants.hand now asker.now author.now rights.old) result rights.new }
+{
+    if !rights.is_owner(asker) {
+        return Err(Refusal::Denied);
+    }
+    rights.hand(author)?;
+    Ok(PadReply::Done { now })
+}
+
+/// All who have a right.
 pub fn read_rights(alloc: Global, rights: &RightsBook, now: u64) -> Result<PadReply, Refusal>
     ensures { Tells (grants.read_rights now rights.now) result }
 {

@@ -1,6 +1,7 @@
 //! The operations that were delivered, and what they show.
 ghost use Rattle.std.specs.Prelude.{◌≡◌, ℕ, ◌+◌, ◌≤◌, [], ◌∷◌, ◌++◌, length, take, drop, filter, slice_get, option_map, count_by, Option, None, Ok, IsTrue, IfErr, MatchResult};
 ghost use Rattle.pad_model.specs.Answers.{Answers};
+ghost use Rattle.pad_model.specs.Cell.{cells_at};
 ghost use Rattle.pad_model.specs.Checked.{is_checked};
 ghost use Rattle.pad_model.specs.History.{cells_of, clock_of_characters};
 ghost use Rattle.pad_model.specs.Log.{is_comment};
@@ -8,6 +9,7 @@ ghost use Rattle.pad_model.specs.OldWire.{op_in_v1};
 ghost use Rattle.pad_model.specs.Operation.{characters_in, erased_by};
 ghost use Rattle.pad_model.specs.Pieces as pieces_spec;
 ghost use Rattle.pad_model.specs.Seen.{count_in};
+ghost use Rattle.pad_model.specs.Views.{IsViewOf};
 ghost use Rattle.pad_model.specs.Visible.{caret_of, hidden_by, runs_of, spans_of, stamp_at, text_of, visible};
 ghost use Rattle.op_log.specs.Found.{IsNextMissing};
 ghost use Rattle.op_log.specs.Log.{is_missing, is_note};
@@ -22,8 +24,8 @@ use crate::judge::{count_inserted, is_comment, is_valid};
 use comments::{CommentBook, Shown};
 use op_log::{FoundOp, OpLog};
 use pad_model::{
-    AuthorRun, Items, MAX_CHARACTERS, MAX_COMMENTS, MAX_OPERATIONS, Op, OpName, Piece, Refusal,
-    Seen, Sequence, Span, Stamp, Text,
+    AuthorRun, CellView, Items, MAX_CHARACTERS, MAX_COMMENTS, MAX_OPERATIONS, Op, OpName, Piece,
+    Refusal, Seen, Sequence, Span, Stamp, Text,
 };
 use std::alloc::Global;
 use std::marker::Model;
@@ -104,6 +106,13 @@ impl<S: Sequence> Ledger<S> {
         ensures { result ≡ stamp_at (characters_at rev self.now) place }
     {
         self.sequence.stamp_at(rev, place)
+    }
+
+    /// The character that a revision shows at a place, from 0.
+    pub fn shown_cell(&self, rev: u64, place: u64) -> Option<CellView<'_>>
+        ensures { IsViewOf result (slice_get (cells_at rev (cells_of self.now)) place) }
+    {
+        self.sequence.shown_cell(rev, place)
     }
 
     /// The stamps of the `len` characters that a revision shows from a place on.

@@ -3,6 +3,7 @@
 
 mod act;
 mod admit;
+mod append;
 mod batch;
 mod demand;
 mod edit;
@@ -14,6 +15,7 @@ mod judge;
 pub mod laws;
 mod ledger;
 mod make;
+mod marks;
 mod note;
 mod owned;
 mod pad;
@@ -34,5 +36,5 @@ pub use owned::Owned;
 pub use pad::Pad;
 pub use reads::{MAX_ENTRIES, MAX_WAIT};
 pub use recorded::{AuditError, Recorded, audit};
-pub use reply::{Kind, Listed, LogEntry, PadReply, Present, Pushed, Reply};
-pub use request::Request;
+pub use reply::{Kind, Listed, LogEntry, PadReply, Person, Present, Pushed, Reply};
+pub use request::{MAX_PEOPLE_ASKED, Request};

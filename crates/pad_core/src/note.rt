@@ -1,5 +1,5 @@
 //! What authors comment, and what they resolve.
-ghost use Rattle.std.specs.Prelude.{◌≡◌, ◌+◌, ◌≤◌, ◌<◌, [], ◌∷◌, length, IsTrue, None, Some, MatchResult};
+ghost use Rattle.std.specs.Prelude.{◌≡◌, ◌≤◌, ◌+◌, ◌<◌, [], ◌∷◌, length, IsTrue, None, Some, MatchResult};
 ghost use Rattle.pad_model.specs.Answers.{Answers};
 ghost use Rattle.pad_model.specs.Checked.{is_checked, is_name};
 ghost use Rattle.pad_model.specs.Visible.{stamp_at, visible};
@@ -8,10 +8,12 @@ ghost use Rattle.pad_core.specs.Delivered.{IsDelivered, delivery_refusal};
 ghost use Rattle.pad_core.specs.Notes.{comment_parts, comment_refusal, noted, resolve_refusal};
 ghost use Rattle.pad_core.specs.Notes as notes;
 
+use crate::append::append;
 use crate::edit::make_op;
 use crate::ledger::Ledger;
 use crate::reply::PadReply;
 use crate::writer::{Passage, Writer};
+use op_log::TimeList;
 use pad_model::{
     Items, MAX_COMMENT, MAX_COMMENTS, MAX_OPERATIONS, OpName, Part, Refusal, Sequence, Stamp, Text,
 };
@@ -21,33 +23,43 @@ use std::alloc::Global;
 pub fn comment<S: Sequence>(
     alloc: Global,
     ledger: &mut Ledger<S>,
+    times: &mut TimeList,
     writer: Writer<'_>,
     passage: Passage,
     text: &Text,
 ) -> Result<PadReply, Refusal>
     requires replica { 1 ≤ writer.replica }
     requires author { IsTrue (is_name writer.author.now) }
-    ensures { Answers ledger.old (notes.comment writer.entry.replica writer.entry.author.now passage.rev
+    requires room { length ledger.old ≤ times.old.room }
+    ensures answer { Answers ledger.old (notes.comment writer.entry.replica writer.entry.author.now passage.rev
         passage.at passage.len text.now ledger.old) result ledger.new }
+    ensures times { times.new.times ≡ times.old.times }
+    ensures grown { length ledger.old ≤ length ledger.new }
+    ensures room { length ledger.new ≤ times.new.room }
 {
     if let Some(refusal) = refuse_comment(ledger, passage, text) {
         return Err(refusal);
     }
     let part = make_comment(ledger, passage, text)?;
-    note(alloc, ledger, writer, part)
+    note(alloc, ledger, times, writer, part)
 }
 
 /// Resolves a comment.
 pub fn resolve<S: Sequence>(
     alloc: Global,
     ledger: &mut Ledger<S>,
+    times: &mut TimeList,
     writer: Writer<'_>,
     comment: OpName,
 ) -> Result<PadReply, Refusal>
     requires replica { 1 ≤ writer.replica }
     requires author { IsTrue (is_name writer.author.now) }
-    ensures { Answers ledger.old (notes.resolve writer.entry.replica writer.entry.author.now comment
+    requires room { length ledger.old ≤ times.old.room }
+    ensures answer { Answers ledger.old (notes.resolve writer.entry.replica writer.entry.author.now comment
         ledger.old) result ledger.new }
+    ensures times { times.new.times ≡ times.old.times }
+    ensures grown { length ledger.old ≤ length ledger.new }
+    ensures room { length ledger.new ≤ times.new.room }
 {
     if !ledger.has_comment(comment) {
         return Err(Refusal::NoComment);
@@ -55,13 +67,14 @@ pub fn resolve<S: Sequence>(
     if MAX_OPERATIONS <= ledger.len() {
         return Err(Refusal::LogFull);
     }
-    note(alloc, ledger, writer, Part::Resolve { comment })
+    note(alloc, ledger, times, writer, Part::Resolve { comment })
 }
 
 /// Makes the operation of one comment or resolution and delivers it.
 fn note<S: Sequence>(
     alloc: Global,
     ledger: &mut Ledger<S>,
+    times: &mut TimeList,
     writer: Writer<'_>,
     part: Part,
 ) -> Result<PadReply, Refusal>
@@ -69,13 +82,17 @@ fn note<S: Sequence>(
         (op_of writer.replica writer.author.now (part ∷ []) ledger.old)) }
     requires allowed { delivery_refusal
         (op_of writer.replica writer.author.now (part ∷ []) ledger.old) ledger.old ≡ None }
-    ensures { Answers ledger.old (noted None writer.entry.replica writer.entry.author.now
+    requires room { length ledger.old ≤ times.old.room }
+    ensures answer { Answers ledger.old (noted None writer.entry.replica writer.entry.author.now
         (part ∷ []) ledger.old) result ledger.new }
+    ensures times { times.new.times ≡ times.old.times }
+    ensures grown { length ledger.old ≤ length ledger.new }
+    ensures room { length ledger.new ≤ times.new.room }
 {
     let parts = Items::of_one(alloc, part)?;
     let op = make_op(ledger, writer, parts)?;
     let name = op.name;
-    ledger.append(alloc, op)?;
+    append(alloc, ledger, times, op)?;
     Ok(PadReply::Made {
         now: ledger.len(),
         name,

@@ -1,27 +1,30 @@
 //! What a claim gives a pad.
-ghost use Rattle.std.specs.Prelude.{◌≡◌, ◌+◌, [], Ok, Option, Some, MatchResult};
+ghost use Rattle.std.specs.Prelude.{◌≡◌, ◌+◌, [], Ok, Option, None, Some, MatchResult};
 ghost use Rattle.pad_model.specs.Answers.{Answers};
 ghost use Rattle.presence.specs.Presence.{Presence, joined};
-ghost use Rattle.pad_core.specs.Machine.{nobody_present};
+ghost use Rattle.pad_core.specs.Machine.{new_owned, nobody_present};
 ghost use Rattle.pad_core.specs.declared.owned.Owned.{Owned};
 
 use crate::event::Claim;
+use named_revisions::NamedRevisions;
 use pad_model::{Name, Refusal};
 use presence::PresenceBook;
 use rights::RightsBook;
 use std::alloc::Global;
 
-/// The name of a pad, and who may do what with it.
+/// The name of a pad, who may do what with it, and the names of its revisions.
 #[derive(Drop)]
 pub struct Owned {
     pub name: Name,
     pub rights: RightsBook,
+    pub marks: NamedRevisions,
 }
 
 impl Owned {
     pub fn new(alloc: Global, name: &str, owner: &str) -> Result<Owned, Refusal>
         ensures { MatchResult result (λ owned. (owned.name ≡ name.now)
-            × (owned.rights ≡ record { owner = owner.now; grants = [] }))
+            × (owned.rights ≡ record { owner = owner.now; everyone = None; grants = [] })
+            × (owned.marks ≡ []))
             (λ e. e ≡ Refusal.Memory) }
     {
         let name = Name::from_str(alloc, name)?;
@@ -29,6 +32,7 @@ impl Owned {
         Ok(Owned {
             name,
             rights: RightsBook::new(alloc, owner),
+            marks: NamedRevisions::new(alloc),
         })
     }
 }
@@ -45,7 +49,7 @@ pub fn own(
     ensures { Answers {S = Option Owned × Presence} (owned.old, presence.old) (
       Ok (Claim.Created (presence.old.given + 1)),
       (
-        Some (record { name = name.now; rights = record { owner = owner.now; grants = [] } }),
+        Some (new_owned name.now owner.now),
         joined owner.now presence.old,
       ),
     ) result (owned.new, presence.new) }

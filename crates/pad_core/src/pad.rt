@@ -1,6 +1,7 @@
 //! One pad.
 ghost use Rattle.std.specs.Prelude.{◌≡◌, ◌⊎◌, ℕ, ◌+◌, ◌≤◌, List, [], length, drop, IsTrue, IfOk, IfSome, OnOk, Some, None, Err, MatchResult, false, is_some, option_map, unwrap_or};
 ghost use Rattle.pad_model.specs.Answers.{Answers};
+ghost use Rattle.op_log.specs.Times.{IsRising};
 ghost use Rattle.pad_model.specs.Checked.{is_name};
 ghost use Rattle.pad_model.specs.declared.limits.TheConstants.{MAX_REPLICA};
 ghost use Rattle.pad_model.specs.Seen.{count_in};
@@ -10,6 +11,7 @@ ghost use Rattle.pad_core.specs.Laws.{LastReadsAlike};
 ghost use Rattle.pad_model.specs.declared.who.Who.TheVariants as Who;
 ghost use Rattle.pad_core.specs.declared.act.Act.{Act};
 ghost use Rattle.pad_core.specs.Listing.{listing};
+ghost use Rattle.pad_core.specs.Times as times_spec;
 ghost use Rattle.pad_core.specs.Machine.{IsAdmitted, IsPad, name_of, nobody_present};
 ghost use Rattle.pad_core.specs.Machine as machine;
 ghost use Rattle.pad_core.specs.Restart as restart_spec;
@@ -21,24 +23,31 @@ use crate::admit::{author_refusal, need_of, nobody_refusal};
 use crate::edit::{delete, edit, insert};
 use crate::event::{Claim, PadEvent};
 use crate::exchange::{pull, read_vector};
-use crate::grants::{grant, read_rights};
+use crate::grants::{grant, hand, read_rights};
 use crate::ledger::Ledger;
+use crate::marks::{mark, read_marks};
 use crate::note::{comment, resolve};
 use crate::owned::{Owned, own};
 use crate::push::push;
-use crate::reads::{read_changes, read_comments, read_entries, read_revs, read_runs, read_text};
+use crate::reads::{
+    read_birth, read_changes, read_comments, read_entries, read_revs, read_revs_at, read_runs,
+    read_text, read_times,
+};
 use crate::reply::{Listed, PadReply};
-use crate::restart::{deliver_again, grant_again, own_again, visit_again};
+use crate::restart::{deliver_again, grant_again, hand_again, mark_again, own_again, visit_again};
 use crate::visits::{depart, join, leave, put_caret, read_who};
 use crate::writer::{Passage, Writer};
 use holdback::Hold;
+use named_revisions::NamedRevision;
+use op_log::TimeList;
 use pad_model::{Items, Name, Op, Refusal, Sequence, Version, Who};
 use presence::PresenceBook;
-use rights::Right;
+use rights::{Grantee, Right};
 use std::alloc::Global;
 use std::marker::Model;
 
-/// A pad: its name and rights once it is claimed, its operations and those that wait for others, and who is present.
+/// A pad: its name and rights once it is claimed, its operations and those that wait for others, who is present, and when
+/// each operation was delivered here.
 #[derive(Drop)]
 pub struct Pad<S: Sequence> {
     owned: Option<Owned>,
@@ -46,10 +55,13 @@ pub struct Pad<S: Sequence> {
     ledger: Ledger<S>,
     held: Hold,
     presence: PresenceBook,
+    /// The time that it was told last, in milliseconds since 1970.
+    clock: u64,
+    times: TimeList,
 }
 
 impl<S: Sequence> Model for Pad<S> {
-    ghost use Rattle.pad_core.specs.Machine.{Machine, IsPad};
+    ghost use Rattle.pad_core.specs.Machine.{Machine, IsWhole};
 
     ghost Value = { Machine };
 
@@ -59,9 +71,11 @@ impl<S: Sequence> Model for Pad<S> {
       log = p.ledger;
       held = p.held;
       presence = p.presence;
+      clock = p.clock;
+      times = p.times.times;
     } };
 
-    ghost invariant = { λ p. IsPad p.owned p.replica p.held p.presence };
+    ghost invariant = { λ p. IsWhole p.owned p.replica p.held p.presence p.ledger p.times };
 }
 
 impl<S: Sequence> Pad<S> {
@@ -75,6 +89,8 @@ impl<S: Sequence> Pad<S> {
               log = [];
               held = [];
               presence = nobody_present present;
+              clock = 0;
+              times = [];
             }) (λ e. e ≡ Refusal.Memory) }
     {
         let ledger = Ledger::new(alloc)?;
@@ -84,6 +100,8 @@ impl<S: Sequence> Pad<S> {
             ledger,
             held: Hold::new(alloc),
             presence: PresenceBook::new(alloc, present),
+            clock: 0,
+            times: TimeList::new(alloc),
         })
     }
 
@@ -103,8 +121,26 @@ impl<S: Sequence> Pad<S> {
         ensures value { result ≡ length self.now.log }
         ensures delivered { IsDelivered self.now.log }
         ensures kept { IsPad self.now.owned self.now.replica self.now.held self.now.presence }
+        ensures timed { length self.now.times ≡ length self.now.log }
+        ensures rising { IsRising self.now.times }
     {
+        let _times = self.times.len();
         self.ledger.len()
+    }
+
+    /// Tells the time, in milliseconds since 1970. Operations that are delivered from now on have it, or the time of the
+    /// last operation if that is later.
+    pub fn tick(&mut self, clock: u64)
+        ensures { self.new ≡ machine.tick clock self.old }
+    {
+        self.clock = clock;
+    }
+
+    /// The time that an operation gets if it is delivered now.
+    pub fn time_now(&self) -> u64
+        ensures { result ≡ times_spec.time_now self.now.clock self.now.times }
+    {
+        self.clock.max(self.times.last())
     }
 
     /// The operations that were delivered.
@@ -219,8 +255,21 @@ impl<S: Sequence> Pad<S> {
     }
 
     /// Gives a right, or takes it away (None), as it was done before a restart.
-    pub fn restore_grant(&mut self, author: &Name, right: Option<Right>) -> Result<(), Refusal>
-        ensures { Answers self.old (restart_spec.restore_grant author.now right self.old) result self.new }
+    pub fn restore_grant(&mut self, grantee: &Grantee, right: Option<Right>) -> Result<(), Refusal>
+        ensures { Answers self.old (restart_spec.restore_grant grantee.now right self.old) result self.new }
+    {
+        if self.owned.is_none() {
+            return Err(Refusal::NoPad);
+        }
+        if !grantee.can_have(right) {
+            return Err(Refusal::BadName);
+        }
+        grant_again(&mut self.owned, grantee, right)
+    }
+
+    /// Makes an author the owner, as it was done before a restart.
+    pub fn restore_hand(&mut self, author: &Name) -> Result<(), Refusal>
+        ensures { Answers self.old (restart_spec.restore_hand author.now self.old) result self.new }
     {
         if self.owned.is_none() {
             return Err(Refusal::NoPad);
@@ -228,7 +277,20 @@ impl<S: Sequence> Pad<S> {
         if !author.is_well_formed() {
             return Err(Refusal::BadName);
         }
-        grant_again(&mut self.owned, author, right)
+        hand_again(&mut self.owned, author)
+    }
+
+    /// Gives a revision the name that it had before a restart.
+    pub fn restore_mark(&mut self, named: &NamedRevision) -> Result<(), Refusal>
+        ensures { Answers self.old (restart_spec.restore_mark named.now self.old) result self.new }
+    {
+        if self.owned.is_none() {
+            return Err(Refusal::NoPad);
+        }
+        if !named.author.is_well_formed() {
+            return Err(Refusal::BadName);
+        }
+        mark_again(&mut self.owned, self.ledger.len(), named)
     }
 
     /// Counts a visit that began before a restart.
@@ -241,12 +303,14 @@ impl<S: Sequence> Pad<S> {
         visit_again(alloc, &mut self.presence, owned.rights.owner())
     }
 
-    /// Delivers an operation that was delivered before a restart. It is refused with 400 if it exceeds a limit, and
-    /// with 403 if it is not the next of its origin.
-    pub fn restore_operation(&mut self, alloc: Global, op: Op) -> Result<(), Refusal>
-        ensures { Answers self.old (restart_spec.restore_operation op self.old) result self.new }
+    /// Delivers an operation that was delivered before a restart, at this time. It is refused with 400 if it exceeds a
+    /// limit, and with 403 if it is not the next of its origin.
+    pub fn restore_operation(&mut self, alloc: Global, op: Op, at: u64) -> Result<(), Refusal>
+        ensures { Answers self.old (restart_spec.restore_operation op at self.old) result self.new }
     {
-        deliver_again(alloc, &mut self.ledger, op)
+        let done = deliver_again(alloc, &mut self.ledger, &mut self.times, op);
+        self.times.fill(self.ledger.len(), at);
+        done
     }
 
     /// Answers a list of events, one after the other.
@@ -330,6 +394,7 @@ impl<S: Sequence> Pad<S> {
     {
         let visit = visit.unwrap_or(0);
         let ledger = &mut self.ledger;
+        let times = &mut self.times;
         let writer = Writer {
             replica: self.replica,
             author: name,
@@ -339,27 +404,68 @@ impl<S: Sequence> Pad<S> {
             Act::Leave => leave(&mut self.presence, ledger.len(), visit),
             Act::Caret { rev, at } => put_caret(ledger, &mut self.presence, visit, *rev, *at),
             Act::Who => read_who(alloc, ledger, &self.presence, self.replica),
-            Act::Insert { rev, at, text } => insert(alloc, ledger, writer, *rev, *at, text),
+            Act::Insert { rev, at, text } => {
+                let reply = insert(alloc, ledger, times, writer, *rev, *at, text);
+                times.fill(ledger.len(), self.clock);
+                reply
+            }
             Act::Delete { rev, at, len } => {
-                delete(alloc, ledger, writer, Passage::new(*rev, *at, *len))
+                let reply = delete(alloc, ledger, times, writer, Passage::new(*rev, *at, *len));
+                times.fill(ledger.len(), self.clock);
+                reply
             }
-            Act::Edit { rev, changes } => edit(alloc, ledger, writer, *rev, changes.as_slice()),
+            Act::Edit { rev, changes } => {
+                let reply = edit(alloc, ledger, times, writer, *rev, changes.as_slice());
+                times.fill(ledger.len(), self.clock);
+                reply
+            }
             Act::Comment { rev, at, len, text } => {
-                comment(alloc, ledger, writer, Passage::new(*rev, *at, *len), text)
+                let passage = Passage::new(*rev, *at, *len);
+                let reply = comment(alloc, ledger, times, writer, passage, text);
+                times.fill(ledger.len(), self.clock);
+                reply
             }
-            Act::Resolve { comment } => resolve(alloc, ledger, writer, *comment),
+            Act::Resolve { comment } => {
+                let reply = resolve(alloc, ledger, times, writer, *comment);
+                times.fill(ledger.len(), self.clock);
+                reply
+            }
             Act::Text { rev } => read_text(alloc, ledger, *rev),
             Act::Runs { rev } => read_runs(alloc, ledger, *rev),
             Act::Comments { rev } => read_comments(alloc, ledger, *rev),
             Act::Changes { rev, to, wait } => read_changes(alloc, ledger, *rev, *to, *wait),
             Act::Revs => read_revs(ledger),
-            Act::Entries { from, count } => read_entries(alloc, ledger, *from, *count),
-            Act::Grant { author, right } => match &mut self.owned {
-                Some(owned) => grant(&mut owned.rights, ledger.len(), author, *right),
+            Act::Entries {
+                from,
+                count,
+                times: timed,
+            } => { read_entries(alloc, ledger, times, *from, *count, *timed) }
+            Act::Times { from, step, count } => {
+                read_times(alloc, ledger, times, *from, *step, *count)
+            }
+            Act::RevsAt { moments } => read_revs_at(alloc, ledger, times, moments.as_slice()),
+            Act::Birth { rev, at } => read_birth(ledger, times, *rev, *at),
+            Act::Grant { grantee, right } => match &mut self.owned {
+                Some(owned) => grant(&mut owned.rights, ledger.len(), grantee, *right),
+                None => Err(Refusal::NoPad),
+            },
+            Act::Hand { author } => match &mut self.owned {
+                Some(owned) => hand(&mut owned.rights, ledger.len(), name, author),
                 None => Err(Refusal::NoPad),
             },
             Act::Rights => match &self.owned {
                 Some(owned) => read_rights(alloc, &owned.rights, ledger.len()),
+                None => Err(Refusal::NoPad),
+            },
+            Act::Mark { rev, text } => match &mut self.owned {
+                Some(owned) => {
+                    let at = self.clock.max(times.last());
+                    mark(&mut owned.marks, ledger.len(), *rev, name, at, text)
+                }
+                None => Err(Refusal::NoPad),
+            },
+            Act::Marks => match &self.owned {
+                Some(owned) => read_marks(alloc, &owned.marks, ledger.len()),
                 None => Err(Refusal::NoPad),
             },
             Act::Vector | Act::Push { .. } | Act::Pull { .. } => Err(Refusal::NotPeer),
@@ -375,7 +481,19 @@ impl<S: Sequence> Pad<S> {
     {
         match act {
             Act::Vector => read_vector(&self.ledger, version),
-            Act::Push { op } => push(alloc, &mut self.ledger, &mut self.held, self.replica, op),
+            Act::Push { op } => {
+                let times = &mut self.times;
+                let reply = push(
+                    alloc,
+                    &mut self.ledger,
+                    times,
+                    &mut self.held,
+                    self.replica,
+                    op,
+                );
+                times.fill(self.ledger.len(), self.clock);
+                reply
+            }
             Act::Pull { seen, max, batch } => {
                 pull(alloc, &self.ledger, version, seen, *max, *batch)
             }

@@ -1,5 +1,5 @@
 //! A pushed operation, and the release of those that waited for it.
-ghost use Rattle.std.specs.Prelude.{◌≡◌, ◌⊎◌, ℕ, ◌+◌, ◌<◌, ◌||◌, ◌==◌, List, IsTrue, Ok, Err, Some, None, option_map, IfOk, IfErr, OnOk, MatchResult, false};
+ghost use Rattle.std.specs.Prelude.{◌≡◌, ◌≤◌, length, ◌⊎◌, ℕ, ◌+◌, ◌<◌, ◌||◌, ◌==◌, List, IsTrue, Ok, Err, Some, None, option_map, IfOk, IfErr, OnOk, MatchResult, false};
 ghost use Rattle.std.specs.List.{AllByRecursion, find};
 ghost use Rattle.holdback.specs.Held.{is_covered, is_held, is_ready};
 ghost use Rattle.pad_model.specs.declared.op.Op.{Op};
@@ -11,9 +11,11 @@ ghost use Rattle.pad_core.specs.Exchange.{IsStuck, both_of, delivered, received,
 ghost use Rattle.pad_core.specs.Exchange as exchange;
 ghost use Rattle.pad_core.specs.Released.{delivery};
 
+use crate::append::append;
 use crate::ledger::Ledger;
 use crate::reply::{PadReply, Pushed};
 use holdback::{Hold, MAX_HELD, Offer, is_ready};
+use op_log::TimeList;
 use pad_model::{Op, OpName, Refusal, Seen, Sequence};
 use std::alloc::Global;
 
@@ -29,18 +31,23 @@ pub struct Released {
 pub fn push<S: Sequence>(
     alloc: Global,
     ledger: &mut Ledger<S>,
+    times: &mut TimeList,
     held: &mut Hold,
     replica: u16,
     op: &Op,
 ) -> Result<PadReply, Refusal>
     requires held { AllByRecursion (λ op. IsTrue (is_checked op)) held.old }
+    requires room { length ledger.old ≤ times.old.room }
     ensures answer { Answers (ledger.old, held.old) (exchange.push replica op.now (ledger.old, held.old))
         result (ledger.new, held.new) ⊎ ((result ≡ Err Refusal.Memory)
         × Stopped replica op.now (ledger.old, held.old) (ledger.new, held.new)) }
     ensures held { AllByRecursion (λ op. IsTrue (is_checked op)) held.new }
+    ensures times { times.new.times ≡ times.old.times }
+    ensures grown { length ledger.old ≤ length ledger.new }
+    ensures room { length ledger.new ≤ times.new.room }
 {
-    let state = receive(alloc, ledger, held, replica, op)?;
-    let released = settle(alloc, ledger, held)?;
+    let state = receive(alloc, ledger, times, held, replica, op)?;
+    let released = settle(alloc, ledger, times, held)?;
     Ok(PadReply::Pushed {
         now: ledger.len(),
         state,
@@ -53,14 +60,19 @@ pub fn push<S: Sequence>(
 fn receive<S: Sequence>(
     alloc: Global,
     ledger: &mut Ledger<S>,
+    times: &mut TimeList,
     held: &mut Hold,
     replica: u16,
     op: &Op,
 ) -> Result<Pushed, Refusal>
     requires held { AllByRecursion (λ op. IsTrue (is_checked op)) held.old }
+    requires room { length ledger.old ≤ times.old.room }
     ensures answer { Answers (ledger.old, held.old) (received replica op.now (ledger.old, held.old))
         result (ledger.new, held.new) }
     ensures held { AllByRecursion (λ op. IsTrue (is_checked op)) held.new }
+    ensures times { times.new.times ≡ times.old.times }
+    ensures grown { length ledger.old ≤ length ledger.new }
+    ensures room { length ledger.new ≤ times.new.room }
 {
     op.check()?;
     if is_known(ledger, held, op.name) {
@@ -70,7 +82,7 @@ fn receive<S: Sequence>(
         return Err(Refusal::PeerFault);
     }
     if is_ready(op, ledger.seen()) {
-        return deliver(alloc, ledger, op);
+        return deliver(alloc, ledger, times, op);
     }
     hold_back(held, op, ledger.seen())
 }
@@ -105,18 +117,27 @@ fn is_known<S: Sequence>(ledger: &Ledger<S>, held: &Hold, name: OpName) -> bool
 }
 
 /// Delivers an operation that is ready, unless it is refused.
-fn deliver<S: Sequence>(alloc: Global, ledger: &mut Ledger<S>, op: &Op) -> Result<Pushed, Refusal>
+fn deliver<S: Sequence>(
+    alloc: Global,
+    ledger: &mut Ledger<S>,
+    times: &mut TimeList,
+    op: &Op,
+) -> Result<Pushed, Refusal>
     requires checked { IsTrue (is_checked op.now) }
     requires ready { IsTrue (is_ready (vector_of ledger.old) op.now) }
-    ensures { (held : List Op) → Answers (ledger.old, held)
+    requires room { length ledger.old ≤ times.old.room }
+    ensures answer { (held : List Op) → Answers (ledger.old, held)
         (delivered op.now (delivery_refusal op.now ledger.old) ledger.old held) result
         (ledger.new, held) }
+    ensures times { times.new.times ≡ times.old.times }
+    ensures grown { length ledger.old ≤ length ledger.new }
+    ensures room { length ledger.new ≤ times.new.room }
 {
     if let Some(refusal) = ledger.refusal_of(op) {
         return Err(refusal);
     }
     let op = op.clone()?;
-    ledger.append(alloc, op)?;
+    append(alloc, ledger, times, op)?;
     Ok(Pushed::Delivered)
 }
 
@@ -124,22 +145,27 @@ fn deliver<S: Sequence>(alloc: Global, ledger: &mut Ledger<S>, op: &Op) -> Resul
 fn settle<S: Sequence>(
     alloc: Global,
     ledger: &mut Ledger<S>,
+    times: &mut TimeList,
     held: &mut Hold,
 ) -> Result<Released, Refusal>
     requires held { AllByRecursion (λ op. IsTrue (is_checked op)) held.old }
+    requires room { length ledger.old ≤ times.old.room }
     ensures ok { IfOk result (λ released. delivery released ledger.new held.new
         ≡ exchange.settle (unsettled (ledger.old, held.old))) }
     ensures memory { IfErr result (λ e. (e ≡ Refusal.Memory) × (n : ℕ)
         × ((ledger.new, held.new) ≡ both_of (steps n (unsettled (ledger.old, held.old))))
         × IsStuck (ledger.new, held.new)) }
     ensures held { AllByRecursion (λ op. IsTrue (is_checked op)) held.new }
+    ensures times { times.new.times ≡ times.old.times }
+    ensures grown { length ledger.old ≤ length ledger.new }
+    ensures room { length ledger.new ≤ times.new.room }
 {
     let mut released = Released {
         delivered: 0,
         dropped: 0,
     };
     for _n in 0..held.len() {
-        if !release(alloc, ledger, held, &mut released)? {
+        if !release(alloc, ledger, times, held, &mut released)? {
             return Ok(released);
         }
     }
@@ -151,11 +177,13 @@ fn settle<S: Sequence>(
 fn release<S: Sequence>(
     alloc: Global,
     ledger: &mut Ledger<S>,
+    times: &mut TimeList,
     held: &mut Hold,
     released: &mut Released,
 ) -> Result<bool, Refusal>
     requires held { AllByRecursion (λ op. IsTrue (is_checked op)) held.old }
     requires few { released.old.delivered + released.old.dropped < u64.MAX }
+    requires room { length ledger.old ≤ times.old.room }
     ensures ok { OnOk result (delivery released.new ledger.new held.new
         ≡ exchange.release (delivery released.old ledger.old held.old)) }
     ensures settled { result ≡ Ok false → find (is_ready (vector_of ledger.old)) held.old ≡ None }
@@ -163,6 +191,9 @@ fn release<S: Sequence>(
         × (delivery released.new ledger.new held.new ≡ delivery released.old ledger.old held.old)
         × IsStuck (ledger.new, held.new)) }
     ensures held { AllByRecursion (λ op. IsTrue (is_checked op)) held.new }
+    ensures times { times.new.times ≡ times.old.times }
+    ensures grown { length ledger.old ≤ length ledger.new }
+    ensures room { length ledger.new ≤ times.new.room }
 {
     let Some(op) = next_op(ledger, held) else {
         return Ok(false);
@@ -174,7 +205,7 @@ fn release<S: Sequence>(
         return Ok(true);
     }
     let op = op.clone()?;
-    ledger.append(alloc, op)?;
+    append(alloc, ledger, times, op)?;
     held.take(name);
     released.delivered += 1;
     Ok(true)

@@ -1,7 +1,9 @@
 //! The replies of a pad and of a server.
 use comments::Shown;
+use named_revisions::NamedRevision;
 use pad_model::{Author, AuthorRun, Items, Name, Op, OpName, Piece, Seen, Text, Version};
 use rights::{Grant, Right};
+use sessions::Word;
 
 /// What an operation does, in a word.
 #[derive(Clone, Copy, Debug, PartialEq, Eq)]
@@ -21,6 +23,8 @@ pub struct LogEntry {
     pub name: OpName,
     pub author: Author,
     pub kind: Kind,
+    /// In milliseconds since 1970, where it was asked for.
+    pub at: Option<u64>,
 }
 
 /// Somebody who is present.
@@ -40,6 +44,14 @@ pub struct Listed {
     pub right: Right,
     /// Its present revision.
     pub now: u64,
+}
+
+/// An author with a display name.
+#[derive(Debug, Drop)]
+pub struct Person {
+    pub author: Name,
+    /// The display name.
+    pub name: Word,
 }
 
 /// What became of a pushed operation.
@@ -116,15 +128,37 @@ pub enum PadReply {
         now: u64,
         entries: Items<LogEntry>,
     },
+    /// When some revisions were made, in milliseconds since 1970.
+    Times {
+        now: u64,
+        times: Items<u64>,
+    },
+    /// The last revisions that are not later than some moments.
+    RevsAt {
+        now: u64,
+        revs: Items<u64>,
+    },
+    /// Who wrote a character, in which revision, and when, in milliseconds since 1970.
+    Birth {
+        now: u64,
+        author: Author,
+        rev: u64,
+        at: u64,
+    },
     /// Who is present, in order of joining.
     Who {
         now: u64,
         who: Items<Present>,
     },
-    /// Who has which right: the creator first, then by first grant.
+    /// Who has which right: the owner first, then everyone, then by first grant.
     Rights {
         now: u64,
         rights: Items<Grant>,
+    },
+    /// The revisions with a name, in the order in which they were named.
+    Marks {
+        now: u64,
+        marks: Items<NamedRevision>,
     },
     /// The number of delivered operations of each origin.
     Vector {
@@ -156,6 +190,8 @@ pub enum Reply {
     Pad(PadReply),
     /// The pads that the author may read, in the order of their cells.
     Pads { pads: Items<Listed> },
+    /// Those of the authors asked for who have a display name, in the order of the request.
+    People { people: Items<Person> },
     /// The session has left its pads, and is unauthenticated again.
     Ended,
 }

@@ -2,9 +2,12 @@
 ghost use Rattle.std.specs.Prelude.{◌≡◌};
 
 use crate::act::Act;
-use pad_model::{Name, Version};
+use pad_model::{Items, Name, Version};
 use sessions::Word;
 use std::alloc::AllocError;
+
+/// The most authors whose display names can be asked for at once.
+pub const MAX_PEOPLE_ASKED: u64 = 100;
 
 /// A session's requests to its server.
 #[derive(Debug, Drop)]
@@ -26,6 +29,10 @@ pub enum Request {
     },
     /// Lists the pads that the author may read.
     Pads,
+    /// Asks for the display names of these authors.
+    People {
+        names: Items<Name>,
+    },
     /// Does an act on a pad.
     On {
         pad: Name,
@@ -53,6 +60,9 @@ impl Clone for Request {
             },
             Request::Create { pad } => Request::Create { pad: pad.clone()? },
             Request::Pads => Request::Pads,
+            Request::People { names } => Request::People {
+                names: names.clone()?,
+            },
             Request::On { pad, act } => Request::On {
                 pad: pad.clone()?,
                 act: act.clone()?,

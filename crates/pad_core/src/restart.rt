@@ -1,17 +1,21 @@
 //! How the parts of a pad are restored after a restart.
-ghost use Rattle.std.specs.Prelude.{◌≡◌, ◌++◌, ◌∷◌, [], IsTrue, Ok, Option, Some};
+ghost use Rattle.std.specs.Prelude.{◌≡◌, ◌≤◌, length, ◌++◌, ◌∷◌, [], IsTrue, Ok, Option, None, Some};
 ghost use Rattle.pad_model.specs.Answers.{Answers};
 ghost use Rattle.presence.specs.Presence.{Presence, joined};
-ghost use Rattle.pad_core.specs.Machine.{nobody_present};
-ghost use Rattle.pad_core.specs.Restart.{delivered_again, ended, granted_again, visited};
+ghost use Rattle.pad_core.specs.Machine.{new_owned, nobody_present};
+ghost use Rattle.pad_core.specs.Restart.{delivered_again, ended, granted_again, handed_again, marked_again, visited};
 ghost use Rattle.pad_core.specs.Restart as restart;
 ghost use Rattle.pad_core.specs.declared.owned.Owned.{Owned};
 
+use crate::append::append;
 use crate::ledger::Ledger;
+use crate::marks::name_revision;
 use crate::owned::{Owned, own};
+use named_revisions::NamedRevision;
+use op_log::TimeList;
 use pad_model::{Name, Op, OpName, Refusal, Seen, Sequence};
 use presence::PresenceBook;
-use rights::Right;
+use rights::{Grantee, Right};
 use std::alloc::Global;
 
 /// Gives a pad without a name this name and owner, whose visit has ended.
@@ -26,10 +30,7 @@ pub fn own_again(
     ensures { Answers {S = Option Owned × Presence} (owned.old, presence.old) (
       Ok tt,
       (
-        Some (record {
-          name = name.now;
-          rights = record { owner = owner.now; grants = [] };
-        }),
+        Some (new_owned name.now owner.now),
         ended (joined owner.now presence.old),
       ),
     ) result (owned.new, presence.new) }
@@ -51,13 +52,40 @@ pub fn visit_again(alloc: Global, presence: &mut PresenceBook, author: &str) -> 
 /// Gives a right, or takes it away, if the pad has a name.
 pub fn grant_again(
     owned: &mut Option<Owned>,
-    author: &Name,
+    grantee: &Grantee,
     right: Option<Right>,
 ) -> Result<(), Refusal>
-    ensures { Answers owned.old (granted_again author.now right owned.old) result owned.new }
+    ensures { Answers owned.old (granted_again grantee.now right owned.old) result owned.new }
 {
     match owned {
-        Some(owned) => owned.rights.grant(author, right),
+        Some(owned) => owned.rights.grant(grantee, right),
+        None => Err(Refusal::NoPad),
+    }
+}
+
+/// Makes an author the owner, if the pad has a name.
+pub fn hand_again(owned: &mut Option<Owned>, author: &Name) -> Result<(), Refusal>
+    ensures { Answers owned.old (handed_again author.now owned.old) result owned.new }
+{
+    match owned {
+        Some(owned) => owned.rights.hand(author),
+        None => Err(Refusal::NoPad),
+    }
+}
+
+/// Gives a revision its name, if the pad has one itself.
+pub fn mark_again(owned: &mut Option<Owned>, now: u64, named: &NamedRevision) -> Result<(), Refusal>
+    ensures { Answers owned.old (marked_again now named.now owned.old) result owned.new }
+{
+    match owned {
+        Some(owned) => name_revision(
+            &mut owned.marks,
+            now,
+            named.rev,
+            &named.author,
+            named.at,
+            &named.text,
+        ),
         None => Err(Refusal::NoPad),
     }
 }
@@ -66,9 +94,14 @@ pub fn grant_again(
 pub fn deliver_again<S: Sequence>(
     alloc: Global,
     ledger: &mut Ledger<S>,
+    times: &mut TimeList,
     op: Op,
 ) -> Result<(), Refusal>
-    ensures { Answers ledger.old (delivered_again op ledger.old) result ledger.new }
+    requires room { length ledger.old ≤ times.old.room }
+    ensures answer { Answers ledger.old (delivered_again op ledger.old) result ledger.new }
+    ensures times { times.new.times ≡ times.old.times }
+    ensures grown { length ledger.old ≤ length ledger.new }
+    ensures room { length ledger.new ≤ times.new.room }
 {
     op.check()?;
     if !is_next(ledger.seen(), op.name) {
@@ -77,7 +110,7 @@ pub fn deliver_again<S: Sequence>(
     if let Some(refusal) = ledger.refusal_of(&op) {
         return Err(refusal);
     }
-    ledger.append(alloc, op)?;
+    append(alloc, ledger, times, op)?;
     Ok(())
 }
 

@@ -40,9 +40,9 @@ pub enum Refusal {
     Crowded,
     /// 314: the pad has no visit number left.
     VisitsSpent,
-    /// 315: the creator's right cannot change.
+    /// 315: the owner's right does not change by a grant.
     OwnerKept,
-    /// 316: the pad has 256 grants.
+    /// 316: 256 names have a right on the pad, including the owner's.
     GrantsFull,
     /// 317: the pad has made all of its 64 seats.
     SeatsGone,

@@ -96,6 +96,10 @@ pub trait Sequence: Drop {
     fn stamp_at(&self, rev: u64, place: u64) -> Option<Stamp>
         ensures { result ≡ cell_stamp_at rev (cells self.now) place };
 
+    /// The visible character at a position, from 0.
+    fn shown_cell(&self, rev: u64, place: u64) -> Option<CellView<'_>>
+        ensures { IsViewOf result (slice_get (cells_at rev (cells self.now)) place) };
+
     fn text_at(&self, alloc: Global, rev: u64) -> Result<Text, Refusal>
         ensures { MatchResult result (λ text. text ≡ cell.text_at rev (cells self.now))
             (λ e. e ≡ Refusal.Memory) };

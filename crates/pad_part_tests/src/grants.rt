@@ -1,8 +1,8 @@
 //! Who may do what with a pad, compared with results worked out by hand, and the number of names that a pad can hold.
-use crate::grants::GrantCase::{Counts, Grants, Lists, May};
+use crate::grants::GrantCase::{Counts, Grants, Hands, Lists, May};
 use pad_model::{Name, Refusal};
 use rights::Right::{Comment, Own, Read, Write};
-use rights::{Grant, MAX_GRANTS, Right, RightsBook};
+use rights::{Grant, Grantee, MAX_GRANTS, Right, RightsBook};
 use std::alloc::{AllocError, Global};
 use std::process::Abort;
 use std::test::Fail;
@@ -18,6 +18,7 @@ type Plain = (&'static str, Right);
 #[derive(Clone, Copy, Debug)]
 enum GrantCase {
     Grants(&'static str, Option<Right>, Result<(), Refusal>),
+    Hands(&'static str, Result<(), Refusal>),
     May(&'static str, Right, bool),
     Lists(&'static [Plain]),
     Counts(u64),
@@ -29,8 +30,27 @@ fn grant(
     name: &str,
     right: Option<Right>,
 ) -> Result<(), Refusal> {
+    book.grant(&grantee(alloc, name)?, right)
+}
+
+fn hand(alloc: Global, book: &mut RightsBook, name: &str) -> Result<(), Refusal> {
     let name = Name::from_str(alloc, name)?;
-    book.grant(&name, right)
+    book.hand(&name)
+}
+
+/// The author with this name, or everyone for `*`.
+fn grantee(alloc: Global, name: &str) -> Result<Grantee, AllocError> {
+    match name {
+        "*" => Ok(Grantee::Everyone),
+        name => Ok(Grantee::Author(Name::from_str(alloc, name)?)),
+    }
+}
+
+fn is_grantee(grantee: &Grantee, want: &str) -> bool {
+    match grantee {
+        Grantee::Author(name) => name.is(want),
+        Grantee::Everyone => want == "*",
+    }
 }
 
 fn may(alloc: Global, book: &RightsBook, name: &str, right: Right) -> Result<bool, Refusal> {
@@ -39,7 +59,7 @@ fn may(alloc: Global, book: &RightsBook, name: &str, right: Right) -> Result<boo
 }
 
 fn is_grant(grant: &Grant, want: Plain) -> bool {
-    grant.name.is(want.0) && grant.right == want.1
+    is_grantee(&grant.grantee, want.0) && grant.right == want.1
 }
 
 fn are_grants(rows: &[Grant], want: &[Plain]) -> bool {
@@ -82,6 +102,10 @@ fn play(
     match step {
         Grants(name, right, want) => {
             let came = grant(alloc, book, name, right);
+            assert!(rt; came == want, "step {place}, {step:?}: came {came:?}");
+        }
+        Hands(name, want) => {
+            let came = hand(alloc, book, name);
             assert!(rt; came == want, "step {place}, {step:?}: came {came:?}");
         }
         May(name, right, want) => {
@@ -171,6 +195,53 @@ const SHARED: &[GrantCase] = &[
     Lists(&[("ann", Own), ("cyd", Write), ("bob", Own)]),
 ];
 
+const FOR_EVERYONE: &[GrantCase] = &[
+    Grants("bob", Some(Comment), Ok(())),
+    Grants("*", Some(Read), Ok(())),
+    May("cyd", Read, true),
+    May("cyd", Comment, false),
+    May("bob", Comment, true),
+    Grants("*", Some(Write), Ok(())),
+    May("cyd", Write, true),
+    May("bob", Write, true),
+    May("bob", Own, false),
+    May("no name", Read, false),
+    Lists(&[("ann", Own), ("*", Write), ("bob", Comment)]),
+    Grants("bob", None, Ok(())),
+    May("bob", Write, true),
+    Grants("*", None, Ok(())),
+    May("bob", Read, false),
+    May("ann", Own, true),
+    Lists(&[("ann", Own)]),
+];
+
+#[test]
+fn an_author_has_the_greater_of_its_right_and_that_of_everyone(
+    rt: HostRuntime,
+) -> Result<(), Fail> {
+    Ok(play_in_new(&rt, rt.alloc(), FOR_EVERYONE)?)
+}
+
+const HANDED: &[GrantCase] = &[
+    Grants("bob", Some(Read), Ok(())),
+    Grants("cyd", Some(Own), Ok(())),
+    Hands("ann", Ok(())),
+    Lists(&[("ann", Own), ("bob", Read), ("cyd", Own)]),
+    Hands("bob", Ok(())),
+    Lists(&[("bob", Own), ("cyd", Own), ("ann", Write)]),
+    May("ann", Write, true),
+    May("ann", Own, false),
+    Grants("bob", None, Err(Refusal::OwnerKept)),
+    Grants("ann", None, Ok(())),
+    Hands("dee", Ok(())),
+    Lists(&[("dee", Own), ("cyd", Own), ("bob", Write)]),
+];
+
+#[test]
+fn a_new_owner_owns_and_the_former_one_may_write(rt: HostRuntime) -> Result<(), Fail> {
+    Ok(play_in_new(&rt, rt.alloc(), HANDED)?)
+}
+
 #[test]
 fn the_creator_keeps_own_and_others_have_their_grants(rt: HostRuntime) -> Result<(), Fail> {
     Ok(play_in_new(&rt, rt.alloc(), SHARED)?)
@@ -193,7 +264,15 @@ fn may_read(alloc: Global, book: &mut RightsBook, number: u64) -> Result<(), Fai
 /// Steps in a full book, where `ab` is the first of those who may read.
 const FULL: &[GrantCase] = &[
     Grants("zoe", Some(Read), Err(Refusal::GrantsFull)),
+    Hands("zoe", Err(Refusal::GrantsFull)),
+    Hands("ab", Ok(())),
+    Counts(MAX_GRANTS),
+    Hands("ann", Ok(())),
+    Grants("ab", Some(Read), Ok(())),
     Grants("zoe", None, Ok(())),
+    Grants("*", Some(Read), Ok(())),
+    May("zoe", Read, true),
+    Grants("*", None, Ok(())),
     Grants("ab", Some(Own), Ok(())),
     Counts(MAX_GRANTS),
     Grants("ab", None, Ok(())),

@@ -1,5 +1,5 @@
-//! Tests of the parts of a pad: its types, the log, author runs, comments, rights, held operations, accounts, visits,
-//! and the tree and the index of the sequence of blocks.
+//! Tests of the parts of a pad: its types, the log, author runs, comments, rights, named revisions, held operations, accounts, persons, users of a proxy,
+//! visits, and the tree and the index of the sequence of blocks.
 #![tactic(auto)]
 
 #[cfg(test)]
@@ -19,10 +19,16 @@ mod index;
 #[cfg(test)]
 mod log;
 #[cfg(test)]
+mod named;
+#[cfg(test)]
 mod packed_log;
+#[cfg(test)]
+mod people;
 #[cfg(test)]
 mod presence_book;
 #[cfg(test)]
 mod seeded;
 #[cfg(test)]
 mod sequence;
+#[cfg(test)]
+mod users;

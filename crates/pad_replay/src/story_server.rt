@@ -84,11 +84,21 @@ impl<S: Sequence> StoryServer<S> {
 
     /// Makes a request, and returns its reply line, including the LF.
     pub fn ask(&mut self, alloc: Global, name: &[u8], line: &[u8]) -> Result<String, StoryFault> {
-        let reply = match step_of(alloc, line) {
-            Ok(step) => self.answer(alloc, name, &step)?,
-            Err(refusal) => Err(refusal),
-        };
+        let reply = self.reply_to(alloc, name, line)?;
         Ok(reply_line(alloc, &reply)?)
+    }
+
+    /// The reply to a request, or its refusal.
+    fn reply_to(
+        &mut self,
+        alloc: Global,
+        name: &[u8],
+        line: &[u8],
+    ) -> Result<Result<Reply, Refusal>, StoryFault> {
+        match step_of(alloc, line) {
+            Ok(step) => self.answer(alloc, name, &step),
+            Err(refusal) => Ok(Err(refusal)),
+        }
     }
 
     /// Ends a session, which is unauthenticated from then on.

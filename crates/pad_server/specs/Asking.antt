@@ -21,6 +21,9 @@ settings_as is_new confirm asked = record {
   new_replica = is_new;
   web = asked.web;
   web_origins = asked.web_origins;
+  user_header = asked.user_header;
+  trusted_proxies = asked.trusted_proxies;
+  any_user = asked.any_user;
   status = asked.status;
   logs_access = asked.log_access;
 }

@@ -73,6 +73,18 @@ web_rule = option_rule (codes "web")
 abbrev pub web_origins_rule : Rule
 web_origins_rule = option_rule (codes "web-origin")
 
+-- `--user-header NAME`
+abbrev pub user_header_rule : Rule
+user_header_rule = option_rule (codes "user-header")
+
+-- `--trusted-proxy ADDRS`
+abbrev pub trusted_proxies_rule : Rule
+trusted_proxies_rule = option_rule (codes "trusted-proxy")
+
+-- `--any-user`
+abbrev pub any_user_rule : Rule
+any_user_rule = flag_rule (codes "any-user")
+
 -- `--status ADDR`
 abbrev pub status_rule : Rule
 status_rule = option_rule (codes "status")
@@ -103,9 +115,13 @@ line_with_page = with_rule (with_rule (with_rule (with_rule line_with_clients_an
 abbrev pub line_with_standby : App
 line_with_standby = with_rule (with_rule (with_rule line_with_page standby_rule) standby_of_rule) confirm_rule
 
+-- the same, with the options of those who watch the server
+abbrev pub line_with_watching : App
+line_with_watching = with_rule (with_rule line_with_standby status_rule) log_access_rule
+
 -- the whole command line, in the terms of clap, which define the words that it accepts and what they give under a name
 abbrev pub line : App
-line = with_rule (with_rule line_with_standby status_rule) log_access_rule
+line = with_rule (with_rule (with_rule line_with_watching user_header_rule) trusted_proxies_rule) any_user_rule
 
 -- what the words give: the numbers, the flags and the texts under the names of the options
 pub record AsksFor (words : List (List ℕ)) (asked : ServerArguments) : Type 0 where
@@ -131,4 +147,8 @@ pub record AsksFor (words : List (List ℕ)) (asked : ServerArguments) : Type 0 
   pub unproved : IsFlag (one_of (codes "unproved") (matches_of line words)) asked.unproved
   pub web : option_map (λ address. address.now) asked.web ≡ text_given line words (codes "web")
   pub web_origins : option_map (λ origins. origins.now) asked.web_origins ≡ text_given line words (codes "web-origin")
+  pub user_header : option_map (λ name. name.now) asked.user_header ≡ text_given line words (codes "user-header")
+  pub trusted_proxies : option_map (λ proxies. proxies.now) asked.trusted_proxies
+      ≡ text_given line words (codes "trusted-proxy")
+  pub any_user : IsFlag (one_of (codes "any-user") (matches_of line words)) asked.any_user
   pub status : option_map (λ address. address.now) asked.status ≡ text_given line words (codes "status")

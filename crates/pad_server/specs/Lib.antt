@@ -5,3 +5,4 @@ pub mod Confirming
 pub mod Modes
 pub mod Origins
 pub mod Status
+pub mod Users

@@ -4,7 +4,7 @@ use Rattle.std.specs.Option.{is_some}
 use Rattle.std.specs.Borrow.{Bor}
 use Rattle.pad_server.specs.declared.args.ServerArguments.{ServerArguments}
 use Rattle.pad_server.specs.declared.mode.Misuse.{Misuse}
-use Rattle.pad_server.specs.declared.mode.Misuse.TheVariants.{NotOne, NoAccounts, NoStore, NoIdle, NoNewReplica, NoWeb, NoWebOrigins, NoClientsPerAddress}
+use Rattle.pad_server.specs.declared.mode.Misuse.TheVariants.{NotOne, NoAccounts, NoStore, NoIdle, NoNewReplica, NoWeb, NoWebOrigins, NoUserHeader, NoTrustedProxies, NoAnyUser, NoClientsPerAddress}
 use Rattle.pad_server.specs.declared.mode.Misuse.TheVariants.{NoStandby, NoCopies, NoConfirm, OwnStandby, ServingStandby, NoStatus}
 use Rattle.pad_server.specs.declared.mode.ServerMode.{ServerMode}
 use Rattle.pad_server.specs.declared.mode.ServerMode.TheVariants.{Stdin, Listen, Standby}
@@ -35,16 +35,20 @@ abbrev pub serving : Bor (List ℕ) → Bor (List ℕ) → ServerArguments → R
 serving address accounts asked = if names_itself asked then Err OwnStandby
     else serving_by address accounts asked asked.standby_of asked.store
 
--- connections over TCP, which need accounts; origins are only for a page, and a confirmation is that of a standby
+-- connections over TCP, which need accounts; origins and users are only for a page, proxies and any user for
+-- users, and a confirmation is that of a standby
 abbrev pub listening : Bor (List ℕ) → Option (Bor (List ℕ)) → ServerArguments → Result ServerMode Misuse
 listening address None asked = Err NoAccounts
 listening address (Some accounts) asked =
     if not (is_some asked.web) && is_some asked.web_origins then Err NoWebOrigins
+    else if not (is_some asked.web) && is_some asked.user_header then Err NoUserHeader
+    else if not (is_some asked.user_header) && is_some asked.trusted_proxies then Err NoTrustedProxies
+    else if not (is_some asked.user_header) && asked.any_user then Err NoAnyUser
     else if not (is_some asked.standby) && is_some asked.confirm then Err NoConfirm
     else serving address accounts asked
 
 -- standard input, without the options that only connections have: a store, a limit of silence, a new replica number, a
--- page, a limit by address, a standby, a status
+-- page, users whom a proxy names, a limit by address, a standby, a status
 abbrev pub reading : ServerArguments → Result ServerMode Misuse
 reading asked =
     if is_some asked.store then Err NoStore
@@ -52,6 +56,9 @@ reading asked =
     else if asked.new_replica then Err NoNewReplica
     else if is_some asked.web then Err NoWeb
     else if is_some asked.web_origins then Err NoWebOrigins
+    else if is_some asked.user_header then Err NoUserHeader
+    else if is_some asked.trusted_proxies then Err NoTrustedProxies
+    else if asked.any_user then Err NoAnyUser
     else if is_some asked.clients_per_address then Err NoClientsPerAddress
     else if is_some asked.standby || is_some asked.standby_of then Err NoStandby
     else if is_some asked.confirm then Err NoConfirm

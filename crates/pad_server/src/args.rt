@@ -3,14 +3,14 @@ ghost use Rattle.std.specs.Prelude.{◌≡◌, ◌≤◌, IfOk, map, string_byte
 ghost use Rattle.clap.specs.Faults.{fault_of};
 ghost use Rattle.clap.specs.Words.{FailsBy, app_of};
 ghost use Rattle.server_core.specs.declared.limits.TheConstants.{MAX_CELLS};
-ghost use Rattle.pad_server.specs.CommandLine.{AsksFor, line_with_service, line, line_with_page, line_with_sizes, line_with_clients_and_store, line_with_standby};
+ghost use Rattle.pad_server.specs.CommandLine.{AsksFor, line_with_service, line, line_with_page, line_with_sizes, line_with_clients_and_store, line_with_standby, line_with_watching};
 
 use crate::options::{
-    clients_of, clients_option, clients_per_address_of, clients_per_address_option, confirm_option,
-    connections_of, connections_option, idle_of, idle_option, listen_option, log_access_flag,
-    main_number_of, new_replica_flag, standby_number_of, standby_of_option, standby_option,
-    status_option, stdin_flag, store_option, unproved_flag, web_option, web_origins_option,
-    workers_of, workers_option,
+    any_user_flag, clients_of, clients_option, clients_per_address_of, clients_per_address_option,
+    confirm_option, connections_of, connections_option, idle_of, idle_option, listen_option,
+    log_access_flag, main_number_of, new_replica_flag, standby_number_of, standby_of_option,
+    standby_option, status_option, stdin_flag, store_option, trusted_proxies_option, unproved_flag,
+    user_header_option, web_option, web_origins_option, workers_of, workers_option,
 };
 use clap::{Command, Error};
 use command_line::{
@@ -62,6 +62,12 @@ pub struct ServerArguments<'a> {
     pub web: Option<&'a str>,
     /// The origins whose pages may connect beside the server's own, separated by commas.
     pub web_origins: Option<&'a str>,
+    /// The field by which a proxy names the user of a request. None: no proxy does.
+    pub user_header: Option<&'a str>,
+    /// The addresses of the proxies from which that field is taken, separated by commas. None: 127.0.0.1 alone.
+    pub trusted_proxies: Option<&'a str>,
+    /// Whether any user whom a proxy names is an author, also one who has no line in the accounts file.
+    pub any_user: bool,
     /// The address at which operators ask for the status.
     pub status: Option<&'a str>,
 }
@@ -134,12 +140,22 @@ fn with_standby_options<'a>(alloc: Global) -> Result<Command<'a>, AllocError>
 }
 
 // Adds the options `--status` and `--log-access`.
-fn command<'a>(alloc: Global) -> Result<Command<'a>, AllocError>
-    ensures { IfOk result (λ command. app_of command ≡ line) }
+fn with_watching_options<'a>(alloc: Global) -> Result<Command<'a>, AllocError>
+    ensures { IfOk result (λ command. app_of command ≡ line_with_watching) }
 {
     with_standby_options(alloc)?
         .arg(status_option(alloc))?
         .arg(log_access_flag(alloc))
+}
+
+// Adds the options `--user-header`, `--trusted-proxy` and `--any-user`.
+fn command<'a>(alloc: Global) -> Result<Command<'a>, AllocError>
+    ensures { IfOk result (λ command. app_of command ≡ line) }
+{
+    with_watching_options(alloc)?
+        .arg(user_header_option(alloc))?
+        .arg(trusted_proxies_option(alloc))?
+        .arg(any_user_flag(alloc))
 }
 
 /// What the words of the command line give, or what is wrong with them.
@@ -173,6 +189,9 @@ pub fn parse<'a>(alloc: Global, words: &'a [String]) -> Result<ServerArguments<'
         unproved: matches.get_flag("unproved"),
         web: matches.get_str("web"),
         web_origins: matches.get_str("web-origin"),
+        user_header: matches.get_str("user-header"),
+        trusted_proxies: matches.get_str("trusted-proxy"),
+        any_user: matches.get_flag("any-user"),
         status: matches.get_str("status"),
     })
 }

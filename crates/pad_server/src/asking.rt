@@ -29,6 +29,9 @@ impl<'a> ServerArguments<'a> {
             new_replica: self.new_replica,
             web: self.web,
             web_origins: self.web_origins,
+            user_header: self.user_header,
+            trusted_proxies: self.trusted_proxies,
+            any_user: self.any_user,
             status: self.status,
             logs_access: self.log_access,
         }

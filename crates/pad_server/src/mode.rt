@@ -6,7 +6,7 @@ use crate::args::ServerArguments;
 use thiserror::Error;
 
 /// Where the requests come from.
-#[derive(Clone, Copy, Debug, PartialEq, Eq)]
+#[derive(Clone, Copy)]
 pub enum ServerMode<'a> {
     /// Standard input.
     Stdin,
@@ -31,7 +31,7 @@ pub enum ServerMode<'a> {
 }
 
 /// What is wrong with a command line that clap accepts.
-#[derive(Clone, Copy, Debug, PartialEq, Eq, Error)]
+#[derive(Clone, Copy, Debug, Error)]
 pub enum Misuse {
     #[error("either --stdin or --listen <ADDR> is needed, and not both")]
     NotOne,
@@ -47,6 +47,12 @@ pub enum Misuse {
     NoWeb,
     #[error("--web-origin <ORIGINS> needs --web <ADDR>")]
     NoWebOrigins,
+    #[error("--user-header <NAME> needs --web <ADDR>")]
+    NoUserHeader,
+    #[error("--trusted-proxy <ADDRS> needs --user-header <NAME>")]
+    NoTrustedProxies,
+    #[error("--any-user needs --user-header <NAME>")]
+    NoAnyUser,
     #[error("--clients-per-address <N> needs --listen <ADDR>")]
     NoClientsPerAddress,
     #[error("--standby <N> and --standby-of <N> need --listen <ADDR>")]
@@ -66,7 +72,8 @@ pub enum Misuse {
 impl<'a> ServerArguments<'a> {
     /// Returns what is served. Exactly one of `--stdin` and `--listen` has to be given: the first without `--store`,
     /// `--idle`, `--new-replica`, `--web`, `--clients-per-address`, a standby and `--status`, the second with `--accounts`.
-    /// `--web-origin` is for `--web`, and `--confirm` for `--standby`.
+    /// `--web-origin` and `--user-header` are for `--web`, `--trusted-proxy` and `--any-user` for `--user-header`, and
+    /// `--confirm` for `--standby`.
     pub fn mode(self) -> Result<ServerMode<'a>, Misuse>
         ensures { result ≡ mode_of self.entry }
     {
@@ -76,6 +83,9 @@ impl<'a> ServerArguments<'a> {
             (true, None) if self.new_replica => Err(Misuse::NoNewReplica),
             (true, None) if self.web.is_some() => Err(Misuse::NoWeb),
             (true, None) if self.web_origins.is_some() => Err(Misuse::NoWebOrigins),
+            (true, None) if self.user_header.is_some() => Err(Misuse::NoUserHeader),
+            (true, None) if self.trusted_proxies.is_some() => Err(Misuse::NoTrustedProxies),
+            (true, None) if self.any_user => Err(Misuse::NoAnyUser),
             (true, None) if self.clients_per_address.is_some() => Err(Misuse::NoClientsPerAddress),
             (true, None) if self.standby.is_some() || self.standby_of.is_some() => {
                 Err(Misuse::NoStandby)
@@ -88,6 +98,13 @@ impl<'a> ServerArguments<'a> {
                 Some(_) if self.web.is_none() && self.web_origins.is_some() => {
                     Err(Misuse::NoWebOrigins)
                 }
+                Some(_) if self.web.is_none() && self.user_header.is_some() => {
+                    Err(Misuse::NoUserHeader)
+                }
+                Some(_) if self.user_header.is_none() && self.trusted_proxies.is_some() => {
+                    Err(Misuse::NoTrustedProxies)
+                }
+                Some(_) if self.user_header.is_none() && self.any_user => Err(Misuse::NoAnyUser),
                 Some(_) if self.standby.is_none() && self.confirm.is_some() => {
                     Err(Misuse::NoConfirm)
                 }

@@ -2,7 +2,7 @@
 ghost use Rattle.std.specs.Prelude.{◌≡◌, ◌≤◌, ℕ, codes, false, unwrap_or};
 ghost use Rattle.clap.specs.Words.{rule_of};
 ghost use Rattle.command_line.specs.Options.{Holds};
-ghost use Rattle.pad_server.specs.CommandLine.{clients_per_address_rule, clients_rule, confirm_rule, connections_rule, idle_rule, listen_rule, log_access_rule, new_replica_rule, standby_of_rule, standby_rule, status_rule, stdin_rule, store_rule, unproved_rule, web_origins_rule, web_rule, workers_rule};
+ghost use Rattle.pad_server.specs.CommandLine.{any_user_rule, clients_per_address_rule, clients_rule, confirm_rule, connections_rule, idle_rule, listen_rule, log_access_rule, new_replica_rule, standby_of_rule, standby_rule, status_rule, stdin_rule, store_rule, trusted_proxies_rule, unproved_rule, user_header_rule, web_origins_rule, web_rule, workers_rule};
 
 use clap::{Arg, ArgAction, ArgMatches, value_parser};
 use std::alloc::Global;
@@ -170,6 +170,42 @@ pub fn web_origins_option<'a>(alloc: Global) -> Arg<'a>
         .value_name("ORIGINS")
         .help(
             "Also accepts pages from these origins, separated by commas, such as https://pads.example",
+        )
+}
+
+/// `--user-header NAME`.
+pub fn user_header_option<'a>(alloc: Global) -> Arg<'a>
+    ensures { (rule_of result ≡ user_header_rule) × (result.global ≡ false) }
+{
+    Arg::new(alloc, "user-header")
+        .long("user-header")
+        .value_name("NAME")
+        .help(
+            "Logs in whom a proxy names in this header of its requests, by the person lines of the accounts file",
+        )
+}
+
+/// `--trusted-proxy ADDRS`.
+pub fn trusted_proxies_option<'a>(alloc: Global) -> Arg<'a>
+    ensures { (rule_of result ≡ trusted_proxies_rule) × (result.global ≡ false) }
+{
+    Arg::new(alloc, "trusted-proxy")
+        .long("trusted-proxy")
+        .value_name("ADDRS")
+        .help(
+            "Takes that header from these addresses alone, up to 16, separated by commas [default: 127.0.0.1]",
+        )
+}
+
+/// `--any-user`.
+pub fn any_user_flag<'a>(alloc: Global) -> Arg<'a>
+    ensures { (rule_of result ≡ any_user_rule) × (result.global ≡ false) }
+{
+    Arg::new(alloc, "any-user")
+        .long("any-user")
+        .action(ArgAction::SetTrue)
+        .help(
+            "Makes whoever the proxy names an author, also without a line in the accounts file, under a name that is made from the user's",
         )
 }
 

@@ -1,3 +1,4 @@
 -- The lemmas, by topic.
+pub mod Moments
 pub mod Partings
 pub mod Readings

@@ -1,7 +1,6 @@
 -- The command line of the program, and what its words give.
-use Rattle.std.specs.Prelude.{◌≡◌, List, ℕ, codes, option_map, pos, true, Some, unwrap_or}
+use Rattle.std.specs.Prelude.{◌≡◌, List, ℕ, codes, option_map, true, unwrap_or}
 use Rattle.clap.specs.Words.{App, Rule, matches_of, new_app, new_rule, one_of, with_rule}
-use Rattle.clap.specs.declared.builder.value_parser.ValueParser.TheVariants as parser
 use Rattle.command_line.specs.Options.{Gives, IsFlag, flag_rule, number_rule, option_rule, text_given, versioned}
 use Rattle.pad_store.specs.declared.args.StoreArguments.{StoreArguments}
 
@@ -9,14 +8,9 @@ use Rattle.pad_store.specs.declared.args.StoreArguments.{StoreArguments}
 abbrev pub needed_word : List ℕ → Rule
 needed_word name = record (new_rule name) { value_names = 1; required = true }
 
--- a revision or a path as a positional argument, which is any text
+-- a revision, a moment or a path as a positional argument, which is any text
 abbrev pub other_word : List ℕ → Rule
 other_word name = record (new_rule name) { value_names = 1 }
-
--- a revision as a positional argument, which is a number of 32 bits
-abbrev pub revision_word : List ℕ → Rule
-revision_word name = record (new_rule name)
-    { value_names = 1; parser = Some (parser.Signed (pos 0) (pos 4294967295)) }
 
 -- an option that takes a revision
 abbrev pub revision_option : List ℕ → Rule
@@ -26,12 +20,17 @@ revision_option name = number_rule name 0 4294967295
 abbrev pub line_with_arguments : App
 line_with_arguments = with_rule (with_rule (with_rule (with_rule (versioned (new_app (codes "pad_store")))
     (needed_word (codes "command"))) (needed_word (codes "path"))) (other_word (codes "first")))
-    (revision_word (codes "second"))
+    (other_word (codes "second"))
 
--- the same, with the options that take a value
+-- the same, with the options that name a revision
+abbrev pub line_with_revisions : App
+line_with_revisions = with_rule (with_rule (with_rule line_with_arguments (revision_option (codes "rev")))
+    (option_rule (codes "at"))) (revision_option (codes "from"))
+
+-- the same, with the other options that take a value
 abbrev pub line_with_values : App
-line_with_values = with_rule (with_rule (with_rule line_with_arguments (revision_option (codes "rev")))
-    (revision_option (codes "from"))) (option_rule (codes "sum"))
+line_with_values = with_rule (with_rule (with_rule (with_rule line_with_revisions (option_rule (codes "by")))
+    (option_rule (codes "since"))) (option_rule (codes "until"))) (option_rule (codes "sum"))
 
 -- the whole command line, in the terms of clap, which define the words that it accepts and what they give under a name
 abbrev pub line : App
@@ -43,10 +42,15 @@ pub record AsksFor (words : List (List ℕ)) (asked : StoreArguments) : Type 0 w
   pub command : option_map (λ word. word.now) asked.command ≡ text_given line words (codes "command")
   pub path : option_map (λ path. path.now) asked.path ≡ text_given line words (codes "path")
   pub other : option_map (λ other. other.now) asked.other ≡ text_given line words (codes "first")
+  pub last : option_map (λ last. last.now) asked.last ≡ text_given line words (codes "second")
   pub first : (other : ℕ) → Gives line words (codes "first") 0 4294967295 other (unwrap_or asked.first other)
   pub second : (other : ℕ) → Gives line words (codes "second") 0 4294967295 other (unwrap_or asked.second other)
   pub rev : (other : ℕ) → Gives line words (codes "rev") 0 4294967295 other (unwrap_or asked.rev other)
   pub from : (other : ℕ) → Gives line words (codes "from") 0 4294967295 other (unwrap_or asked.from other)
+  pub at : option_map (λ at. at.now) asked.at ≡ text_given line words (codes "at")
+  pub by : option_map (λ by. by.now) asked.by ≡ text_given line words (codes "by")
+  pub since : option_map (λ since. since.now) asked.since ≡ text_given line words (codes "since")
+  pub until : option_map (λ until. until.now) asked.until ≡ text_given line words (codes "until")
   pub sum : option_map (λ sum. sum.now) asked.sum ≡ text_given line words (codes "sum")
   pub authors : IsFlag (one_of (codes "authors") (matches_of line words)) asked.authors
   pub comments : IsFlag (one_of (codes "comments") (matches_of line words)) asked.comments

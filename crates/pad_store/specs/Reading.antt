@@ -1,9 +1,10 @@
 -- What is read from the bytes of a pad's file.
-use Rattle.std.specs.Prelude.{◌≡◌, ◌⊎◌, ℕ, List, length, encode_utf8_all, Option, Result, Ok, Err}
+use Rattle.std.specs.Prelude.{◌≡◌, ◌⊎◌, ℕ, List, length, encode_utf8_all, Some, Result, Ok, Err}
 use Rattle.pad_model.specs.declared.op.Op.{Op}
 use Rattle.pad_model.specs.declared.refusal.Refusal.{Refusal}
 use Rattle.pad_model.specs.declared.refusal.Refusal.TheVariants as refusal
-use Rattle.pad_core.specs.Reads.{read_changes, read_comments, read_revs, read_runs, read_text}
+use Rattle.pad_core.specs.Machine.{Machine}
+use Rattle.pad_core.specs.Reads.{read_changes, read_comments, read_revs, read_revs_at, read_runs, read_text}
 use Rattle.pad_core.specs.declared.act.Act.{Act}
 use Rattle.pad_core.specs.declared.act.Act.TheVariants as act
 use Rattle.pad_core.specs.declared.reply.PadReply.{PadReply}
@@ -12,18 +13,21 @@ use Rattle.presence.specs.declared.presence.TheConstants.{DEFAULT_PRESENT}
 use Rattle.store_format.specs.Files.{Read, pad_read}
 use Rattle.store_format.specs.declared.reader.Damage.{Damage}
 use Rattle.store_format.specs.declared.reader.Damage.TheVariants as damage
+use Rattle.pad_store.specs.Choices.{number_of}
+use Rattle.pad_store.specs.declared.revision_choice.RevisionChoice.{RevisionChoice}
 use Rattle.pad_store.specs.declared.trouble.Trouble.{Trouble}
 use Rattle.pad_store.specs.declared.trouble.Trouble.TheVariants.{Memory, Damaged, NoRevision, Unread}
 
--- the bytes of a file lead to a pad with this log, under some name
-unfoldable pub LeadTo : List ℕ → List Op → Type 0
-LeadTo bytes log = (name : List ℕ) × (read : Read)
-    × (pad_read 1 DEFAULT_PRESENT name bytes ≡ Ok read) × (log ≡ read.pad.log)
+-- the bytes of a file lead to a pad with this log and these times, under some name
+unfoldable pub LeadTo : List ℕ → List Op → List ℕ → Type 0
+LeadTo bytes log times = (name : List ℕ) × (read : Read)
+    × (pad_read 1 DEFAULT_PRESENT name bytes ≡ Ok read) × (log ≡ read.pad.log) × (times ≡ read.pad.times)
 
--- a text in UTF-8 is that of a revision of the pad that the bytes of a file lead to; None is the present revision
-unfoldable pub Shows : List ℕ → Option ℕ → List ℕ → Type 0
-Shows bytes rev text = (log : List Op) × LeadTo bytes log × (at : ℕ) × (shown : List ℕ)
-    × (read_text rev log ≡ Ok (Text (length log) at shown)) × (text ≡ encode_utf8_all shown)
+-- a text in UTF-8 is that of the revision that is asked for, of the pad that the bytes of a file lead to
+unfoldable pub Shows : List ℕ → RevisionChoice → List ℕ → Type 0
+Shows bytes asked text = (log : List Op) × (times : List ℕ) × LeadTo bytes log times × (at : ℕ) × (shown : List ℕ)
+    × (read_text (Some (number_of asked log times)) log ≡ Ok (Text (length log) at shown))
+    × (text ≡ encode_utf8_all shown)
 
 -- the trouble that a refusal of a pad means
 abbrev pub trouble_of : Refusal → Trouble
@@ -47,25 +51,27 @@ abbrev pub IsNoDamage : Trouble → Type 0
 IsNoDamage (Damaged found) = ⊥
 IsNoDamage other = Unit {0}
 
--- the answer to an act that reads the log is that of the log, with no claim about any other act
-abbrev pub IsAnswered : Act → PadReply → List Op → Type 0
-IsAnswered (act.Text rev) answer log = read_text rev log ≡ Ok answer
-IsAnswered (act.Runs rev) answer log = read_runs rev log ≡ Ok answer
-IsAnswered (act.Comments rev) answer log = read_comments rev log ≡ Ok answer
-IsAnswered (act.Changes rev to wait) answer log = read_changes rev to wait log ≡ Ok answer
-IsAnswered act.Revs answer log = read_revs log ≡ Ok answer
-IsAnswered other answer log = Unit {0}
+-- the answer to an act that reads the log and the times is that of the pad, with no claim about any other act
+abbrev pub IsAnswered : Act → PadReply → Machine → Type 0
+IsAnswered (act.Text rev) answer m = read_text rev m.log ≡ Ok answer
+IsAnswered (act.Runs rev) answer m = read_runs rev m.log ≡ Ok answer
+IsAnswered (act.Comments rev) answer m = read_comments rev m.log ≡ Ok answer
+IsAnswered (act.Changes rev to wait) answer m = read_changes rev to wait m.log ≡ Ok answer
+IsAnswered act.Revs answer m = read_revs m.log ≡ Ok answer
+IsAnswered (act.RevsAt moments) answer m = read_revs_at moments m.log m.times ≡ Ok answer
+IsAnswered other answer m = Unit {0}
 
--- whether an act only reads the log
+-- whether an act only reads the log and the times
 abbrev pub Reads : Act → Type 0
 Reads (act.Text rev) = Unit {0}
 Reads (act.Runs rev) = Unit {0}
 Reads (act.Comments rev) = Unit {0}
 Reads (act.Changes rev to wait) = Unit {0}
 Reads act.Revs = Unit {0}
+Reads (act.RevsAt moments) = Unit {0}
 Reads other = ⊥
 
--- an act that reads is answered from the log, which stays unchanged, unless the pad has another name
-abbrev pub IsTold : Act → PadReply → List Op → List Op → Type 0
+-- an act that reads is answered from the pad, whose log stays unchanged, unless the pad has another name
+abbrev pub IsTold : Act → PadReply → Machine → Machine → Type 0
 IsTold this answer old new = Reads this
-    → ((answer ≡ Elsewhere) ⊎ IsAnswered this answer old) × (new ≡ old)
+    → ((answer ≡ Elsewhere) ⊎ IsAnswered this answer old) × (new.log ≡ old.log)

@@ -3,11 +3,9 @@ ghost use Rattle.std.specs.Prelude.{◌≡◌, IfOk, codes, map, string_bytes};
 ghost use Rattle.clap.specs.Faults.{fault_of};
 ghost use Rattle.clap.specs.Words.{FailsBy, app_of, new_app};
 ghost use Rattle.command_line.specs.Options.{versioned};
-ghost use Rattle.pad_store.specs.CommandLine.{AsksFor, line_with_arguments, line, line_with_values};
+ghost use Rattle.pad_store.specs.CommandLine.{AsksFor, line, line_with_arguments, line_with_revisions, line_with_values};
 
-use crate::options::{
-    flag, other_word, revision_of, revision_option, revision_word, sum_option, word,
-};
+use crate::options::{flag, other_word, revision_of, revision_option, text_option, word};
 use clap::{Command, Error};
 use command_line::VERSION;
 use std::alloc::{AllocError, Global};
@@ -21,14 +19,24 @@ pub struct StoreArguments<'a> {
     pub path: Option<&'a str>,
     /// The newer store of `beyond`, or the word for the older revision of `diff`.
     pub other: Option<&'a str>,
-    /// The older revision of `diff`.
+    /// The word for the newer revision of `diff`.
+    pub last: Option<&'a str>,
+    /// The number of the older revision of `diff`, if its word is a number.
     pub first: Option<u32>,
-    /// The newer revision of `diff`.
+    /// The number of the newer revision of `diff`, if its word is a number.
     pub second: Option<u32>,
     /// The revision to show, or the last one to export.
     pub rev: Option<u32>,
     /// The first revision of `log`.
     pub from: Option<u32>,
+    /// The moment whose revision is shown, or is the last one to export.
+    pub at: Option<&'a str>,
+    /// The author whose operations are listed.
+    pub by: Option<&'a str>,
+    /// The moment of the first operation that is listed.
+    pub since: Option<&'a str>,
+    /// The moment of the last operation that is listed.
+    pub until: Option<&'a str>,
     /// The sum to look for.
     pub sum: Option<&'a str>,
     pub authors: bool,
@@ -37,11 +45,17 @@ pub struct StoreArguments<'a> {
 }
 
 const USAGE: &str = "pad_store check <DIR|FILE>
-       pad_store show <FILE> [--rev <N>] [--authors] [--comments] [--markdown]
-       pad_store log <FILE> [--from <N>]
-       pad_store diff <FILE> <REV> <REV>
-       pad_store export <FILE> [--rev <N>] [--sum <SUM>]
+       pad_store show <FILE> [--rev <N>|--at <MOMENT>] [--authors] [--comments] [--markdown]
+       pad_store log <FILE> [--from <N>] [--by <AUTHOR>] [--since <MOMENT>] [--until <MOMENT>]
+       pad_store diff <FILE> <REV|MOMENT> <REV|MOMENT>
+       pad_store export <FILE> [--rev <N>|--at <MOMENT>] [--sum <SUM>]
        pad_store beyond <OLD> <NEW>";
+
+const MOMENTS: &str = "A moment is a date from 1970 on, and a time of day if there is one:
+  2026-12-09                 its midnight in UTC
+  '2026-12-09 20:00'         in UTC, also with seconds as 20:00:30 or 20:00:30.5
+  2026-12-09T20:00:00+01:00  where clocks are an hour ahead of UTC; Z in place of the offset is UTC
+It leads to the last revision that was made not later. Digits alone are the number of a revision.";
 
 // The program's name and its help.
 fn start<'a>(alloc: Global) -> Command<'a>
@@ -51,36 +65,51 @@ fn start<'a>(alloc: Global) -> Command<'a>
         .about("Reads the files in which a pad server keeps pads, and changes nothing")
         .version(VERSION)
         .override_usage(USAGE)
+        .after_help(MOMENTS)
 }
 
 // Adds the positional arguments: the command, the path, and two revisions or another path.
 fn with_positional_arguments<'a>(alloc: Global) -> Result<Command<'a>, AllocError>
     ensures { IfOk result (λ command. app_of command ≡ line_with_arguments) }
 {
+    let command_help = "check, show, log, diff, export or beyond";
     let path_help = "A file NAME.pad, or with check and beyond a folder of such files";
-    let other_help = "With diff: the older revision; with beyond: the newer store or file";
+    let other_help =
+        "With diff: the older revision, or its moment; with beyond: the newer store or file";
+    let last_help = "With diff: the newer revision, or its moment";
     start(alloc)
-        .arg(word(
-            alloc,
-            "command",
-            "COMMAND",
-            "check, show, log, diff, export or beyond",
-        ))?
+        .arg(word(alloc, "command", "COMMAND", command_help))?
         .arg(word(alloc, "path", "PATH", path_help))?
-        .arg(other_word(alloc, "first", other_help))?
-        .arg(revision_word(alloc, "second", "With diff: the newer revision"))
+        .arg(other_word(alloc, "first", "OTHER", other_help))?
+        .arg(other_word(alloc, "second", "REV", last_help))
 }
 
-// Adds the options that take a value.
-fn with_value_options<'a>(alloc: Global) -> Result<Command<'a>, AllocError>
-    ensures { IfOk result (λ command. app_of command ≡ line_with_values) }
+// Adds the options that name a revision.
+fn with_revision_options<'a>(alloc: Global) -> Result<Command<'a>, AllocError>
+    ensures { IfOk result (λ command. app_of command ≡ line_with_revisions) }
 {
     let rev_help =
         "The revision that is shown, or the last one that is exported [default: the present one]";
+    let at_help = "The moment whose revision is shown, or is the last one that is exported";
     with_positional_arguments(alloc)?
         .arg(revision_option(alloc, "rev", rev_help))?
-        .arg(revision_option(alloc, "from", "The first revision of the log [default: 1]"))?
-        .arg(sum_option(alloc))
+        .arg(text_option(alloc, "at", "MOMENT", at_help))?
+        .arg(revision_option(alloc, "from", "The first revision of the log [default: 1]"))
+}
+
+// Adds the options that choose operations of the log, and the sum.
+fn with_value_options<'a>(alloc: Global) -> Result<Command<'a>, AllocError>
+    ensures { IfOk result (λ command. app_of command ≡ line_with_values) }
+{
+    let by_help = "With log: only the operations of this author";
+    let since_help = "With log: only operations that were made not before this moment";
+    let until_help = "With log: only operations that were made not later than this moment";
+    let sum_help = "With export: prints nothing but says whether a line of the file has this sum";
+    with_revision_options(alloc)?
+        .arg(text_option(alloc, "by", "AUTHOR", by_help))?
+        .arg(text_option(alloc, "since", "MOMENT", since_help))?
+        .arg(text_option(alloc, "until", "MOMENT", until_help))?
+        .arg(text_option(alloc, "sum", "SUM", sum_help))
 }
 
 fn command<'a>(alloc: Global) -> Result<Command<'a>, AllocError>
@@ -105,10 +134,15 @@ pub fn parse<'a>(alloc: Global, words: &'a [String]) -> Result<StoreArguments<'a
         command: matches.get_str("command"),
         path: matches.get_str("path"),
         other: matches.get_str("first"),
+        last: matches.get_str("second"),
         first: revision_of(&matches, "first"),
         second: revision_of(&matches, "second"),
         rev: revision_of(&matches, "rev"),
         from: revision_of(&matches, "from"),
+        at: matches.get_str("at"),
+        by: matches.get_str("by"),
+        since: matches.get_str("since"),
+        until: matches.get_str("until"),
         sum: matches.get_str("sum"),
         authors: matches.get_flag("authors"),
         comments: matches.get_flag("comments"),

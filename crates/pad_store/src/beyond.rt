@@ -11,7 +11,7 @@ use std::io::{Eprint, Write};
 use std::rt::Runtime;
 
 /// How many pads of the older store were found to be what.
-#[derive(Clone, Copy, Debug)]
+#[derive(Clone, Copy)]
 struct BeyondCounts {
     pads: u64,
     /// Pads with lines that the newer store lacks.
@@ -198,21 +198,25 @@ fn compare_files<'a, R: Runtime<A = Global>, W: Write>(
         Err(trouble) => return Err(StoreFailure::of_pad(new, trouble)),
     };
     let bytes = read_file(rt, old)?;
-    let mut book = match InspectedPad::read(rt.alloc(), bytes.as_slice()) {
-        Ok(book) => book,
-        Err(trouble) => return Err(StoreFailure::of_pad(old, trouble)),
-    };
     let news = whole_lines(rt.alloc(), front(others.as_slice(), whole))?;
-    let olds = whole_lines(rt.alloc(), front(bytes.as_slice(), book.whole))?;
-    put_beyond(
-        rt,
-        old,
-        &mut book,
-        olds.as_slice(),
-        news.as_slice(),
-        counts,
-        out,
-    )
+    compare_with(rt, old, bytes.as_slice(), news.as_slice(), counts, out)
+}
+
+// Prints what the older file has beyond the lines of the newer one.
+fn compare_with<'a, R: Runtime<A = Global>, W: Write>(
+    rt: &R,
+    path: &'a str,
+    bytes: &[u8],
+    news: &[&[u8]],
+    counts: &mut BeyondCounts,
+    out: &mut W,
+) -> Result<(), StoreFailure<'a>> {
+    let mut book = match InspectedPad::read(rt.alloc(), bytes) {
+        Ok(book) => book,
+        Err(trouble) => return Err(StoreFailure::of_pad(path, trouble)),
+    };
+    let olds = whole_lines(rt.alloc(), front(bytes, book.whole))?;
+    put_beyond(rt, path, &mut book, olds.as_slice(), news, counts, out)
 }
 
 // The number of bytes of the whole lines of a file whose pad can be read.

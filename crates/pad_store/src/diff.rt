@@ -1,6 +1,7 @@
 //! The difference between two revisions.
 use crate::inspected_pad::InspectedPad;
 use crate::pieces::{Marks, marked};
+use crate::revision_choice::RevisionChoice;
 use crate::trouble::Trouble;
 use pad_model::Text;
 use std::alloc::{AllocError, Global};
@@ -8,19 +9,24 @@ use std::alloc::{AllocError, Global};
 /// The escape character, which begins a terminal command.
 const ESCAPE: u8 = 27;
 
-/// The text of a revision, with what was deleted and inserted up to a later one.
+/// The text of a revision, with what was deleted and inserted up to a later one; None if that is an earlier one.
 pub fn diff(
     alloc: Global,
     bytes: &[u8],
-    rev: u64,
-    to: u64,
+    rev: RevisionChoice,
+    to: RevisionChoice,
     coloured: bool,
-) -> Result<String, Trouble> {
+) -> Result<Option<String>, Trouble> {
     let marks = coloured_marks(alloc, coloured)?;
     let mut book = InspectedPad::read(alloc, bytes)?;
+    let rev = book.number_of(alloc, rev)?;
+    let to = book.number_of(alloc, to)?;
+    if to < rev {
+        return Ok(None);
+    }
     let shown = compared(alloc, &mut book, rev, to, &marks)?;
     match shown.to_string(alloc) {
-        Ok(text) => Ok(text),
+        Ok(text) => Ok(Some(text)),
         Err(_) => Err(Trouble::Memory),
     }
 }

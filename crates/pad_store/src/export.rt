@@ -4,34 +4,34 @@ use crate::failure::StoreFailure;
 use crate::inspected_pad::InspectedPad;
 use crate::operation::{Operation, operation_on};
 use crate::progress_report::ProgressReport;
+use crate::revision_choice::RevisionChoice;
 use crate::trouble::Trouble;
 use std::alloc::{AllocError, Global};
 use std::io::Write;
 use std::rt::Runtime;
 
-/// Prints a line of JSON for each operation, up to a revision.
+/// Prints a line of JSON for each operation, up to the revision that is asked for.
 pub fn export<'a, R: Runtime<A = Global>, W: Write>(
     rt: &R,
     path: &'a str,
     bytes: &[u8],
-    rev: Option<u64>,
+    asked: RevisionChoice,
     out: &mut W,
 ) -> Result<(), StoreFailure<'a>> {
-    let (all, whole) = match read(rt.alloc(), bytes) {
-        Ok(read) => read,
-        Err(trouble) => return Err(StoreFailure::of_pad(path, trouble)),
-    };
-    let last = rev.unwrap_or(all);
-    if all < last {
-        return Err(StoreFailure::of_pad(path, Trouble::NoRevision));
+    match read(rt.alloc(), bytes, asked) {
+        Ok((last, whole)) => put_lines(rt, &bytes[..bytes.len().min(whole)], last, out),
+        Err(trouble) => Err(StoreFailure::of_pad(path, trouble)),
     }
-    put_lines(rt, &bytes[..bytes.len().min(whole)], last, out)
 }
 
-// The number of revisions of a file's pad, and the number of bytes of its whole lines.
-fn read(alloc: Global, bytes: &[u8]) -> Result<(u64, usize), Trouble> {
-    let book = InspectedPad::read(alloc, bytes)?;
-    Ok((book.revision(), book.whole as usize))
+// The number of the revision that is asked for, of a file's pad, and the number of bytes of its whole lines.
+fn read(alloc: Global, bytes: &[u8], asked: RevisionChoice) -> Result<(u64, usize), Trouble> {
+    let mut book = InspectedPad::read(alloc, bytes)?;
+    let last = book.number_of(alloc, asked)?;
+    if book.revision() < last {
+        return Err(Trouble::NoRevision);
+    }
+    Ok((last, book.whole as usize))
 }
 
 // Prints the operations of these lines, up to a revision.
@@ -58,7 +58,7 @@ fn put_lines<'a, R: Runtime<A = Global>, W: Write>(
 
 // The output line for an operation.
 fn line_of(alloc: Global, rev: u64, done: &Operation<'_>) -> Result<String, AllocError> {
-    let at = done.at.unwrap_or(0);
+    let at = done.at / 1000;
     let op = done.json.as_str();
     let sum = done.sum;
     format!(in alloc; "{{\"at\":{at},\"op\":{op},\"rev\":{rev},\"sum\":\"{sum}\"}}\n")
@@ -72,7 +72,7 @@ pub fn find<'a, W: Write>(
     sum: &str,
     out: &mut W,
 ) -> Result<(), StoreFailure<'a>> {
-    let whole = match read(alloc, bytes) {
+    let whole = match read(alloc, bytes, RevisionChoice::Present) {
         Ok((_, whole)) => bytes.len().min(whole),
         Err(trouble) => return Err(StoreFailure::of_pad(path, trouble)),
     };

@@ -6,7 +6,7 @@ use std::process::ExitCode;
 use std::{fmt, io};
 
 /// Why the program ends early.
-#[derive(Clone, Copy, Debug)]
+#[derive(Clone, Copy)]
 pub enum StoreFailure<'a> {
     Memory,
     /// The arguments could not be read.

@@ -1,4 +1,4 @@
-//! What the first lines of a file say about its pad.
+//! What the lines of a file say about its pad.
 use crate::chain::text_on;
 use pad_model::{Name, Refusal};
 use serde_json::Value;
@@ -6,22 +6,8 @@ use std::alloc::{AllocError, Global};
 use store_format::{Header, StoreLine, read_entry};
 use store_records::Record;
 
-/// The name of a pad, and its owner, who may read all of it.
-#[derive(Debug, Drop)]
-pub struct FileNames {
-    pub pad: Name,
-    pub owner: Name,
-}
-
-/// The names in the lines of a file. Those that the lines do not have are empty. Nothing is verified.
-pub fn names_in(alloc: Global, bytes: &[u8]) -> Result<FileNames, AllocError> {
-    let pad = pad_in(alloc, bytes)?;
-    let owner = owner_in(alloc, bytes)?;
-    Ok(FileNames { pad, owner })
-}
-
-/// The pad's name in the first line.
-fn pad_in(alloc: Global, bytes: &[u8]) -> Result<Name, AllocError> {
+/// The pad's name in the first line; empty if there is none. Nothing is verified.
+pub fn pad_in(alloc: Global, bytes: &[u8]) -> Result<Name, AllocError> {
     let Some(line) = bytes.split(|byte| *byte == b'\n').next() else {
         return Name::from_str(alloc, "");
     };
@@ -31,20 +17,38 @@ fn pad_in(alloc: Global, bytes: &[u8]) -> Result<Name, AllocError> {
     }
 }
 
-/// The owner in the first record of a name.
-fn owner_in(alloc: Global, bytes: &[u8]) -> Result<Name, AllocError> {
+/// The owner after these lines, who may read all of the pad: the author to whom it was handed over last, or else the one who
+/// created it; empty if there is none. Nothing is verified.
+pub fn owner_in(alloc: Global, bytes: &[u8]) -> Result<Name, AllocError> {
+    let mut owner = Name::from_str(alloc, "")?;
     for line in bytes.split(|byte| *byte == b'\n') {
-        match entry_on(alloc, line)? {
-            Some(StoreLine::Record(Record::Named { name: _pad, owner })) => return Ok(owner),
-            Some(_) => {}
-            None => return Name::from_str(alloc, ""),
+        if let Some(named) = owner_on(alloc, line)? {
+            owner = named;
         }
     }
-    Name::from_str(alloc, "")
+    Ok(owner)
+}
+
+/// The owner whom a line names; None if it names none.
+fn owner_on(alloc: Global, line: &[u8]) -> Result<Option<Name>, AllocError> {
+    if !has_owner(line) {
+        return Ok(None);
+    }
+    match entry_on(alloc, line)? {
+        Some(StoreLine::Record(Record::Named { name: _pad, owner })) => Ok(Some(owner)),
+        Some(StoreLine::Record(Record::Handed { author })) => Ok(Some(author)),
+        _ => Ok(None),
+    }
+}
+
+/// Whether a line has the field of an owner. It is in no operation, whose texts have their quotes escaped.
+fn has_owner(line: &[u8]) -> bool {
+    line.windows(8)
+        .any(|eight| eight == b"\"owner\":".as_slice())
 }
 
 /// The entry of a line, whatever line it follows; None if it has none.
-fn entry_on(alloc: Global, line: &[u8]) -> Result<Option<StoreLine>, AllocError> {
+pub fn entry_on(alloc: Global, line: &[u8]) -> Result<Option<StoreLine>, AllocError> {
     let Some(text) = text_on(line) else {
         return Ok(None);
     };

@@ -1,17 +1,20 @@
 //! The pad of a file, which its owner reads.
-ghost use Rattle.std.specs.Prelude.{◌≡◌, IfErr, IfOk, MatchResult, OnOk, Ok, Some, length};
+ghost use Rattle.std.specs.Prelude.{◌≡◌, [], ◌∷◌, IfErr, IfOk, MatchResult, OnOk, Ok, Some, length};
+ghost use Rattle.op_log.specs.Times.{count_until};
 ghost use Rattle.pad_core.specs.Reads.{read_changes, read_comments, read_runs, read_text};
 ghost use Rattle.pad_core.specs.declared.reply.PadReply.TheVariants as reply;
+ghost use Rattle.pad_store.specs.Choices as choices;
 ghost use Rattle.pad_store.specs.Reading.{IsFault, IsNoDamage, IsTold, LeadTo};
 
-use crate::file_names::{FileNames, names_in};
+use crate::file_names::{owner_in, pad_in};
+use crate::revision_choice::RevisionChoice;
 use crate::trouble::Trouble;
 use block_seq::BlockSeq;
 use comments::Shown;
 use pad_core::{Act, Pad, PadEvent, PadReply};
 use pad_model::{AuthorRun, Items, Name, Piece, Text, Who};
 use presence::DEFAULT_PRESENT;
-use std::alloc::Global;
+use std::alloc::{AllocError, Global};
 use store_format::{Loaded, load};
 
 /// The pad of a file, which its owner has joined to read it, with more information about the file.
@@ -32,15 +35,15 @@ pub struct InspectedPad {
 impl InspectedPad {
     /// Reads the bytes of a file, for the pad name in its first line.
     pub fn read(alloc: Global, bytes: &[u8]) -> Result<InspectedPad, Trouble>
-        ensures { MatchResult result (λ book. LeadTo bytes.now book.pad.log)
+        ensures { MatchResult result (λ book. LeadTo bytes.now book.pad.log book.pad.times)
             (λ trouble. IsFault bytes.now trouble) }
     {
-        let names = match names_in(alloc, bytes) {
-            Ok(names) => names,
+        let name = match pad_in(alloc, bytes) {
+            Ok(name) => name,
             Err(_) => return Err(Trouble::Memory),
         };
-        match load_pad(alloc, names.pad.as_str(), bytes) {
-            Ok(loaded) => begin(alloc, loaded, names),
+        match load_pad(alloc, name.as_str(), bytes) {
+            Ok(loaded) => begin(alloc, loaded, name, bytes),
             Err(trouble) => Err(trouble),
         }
     }
@@ -50,6 +53,39 @@ impl InspectedPad {
         ensures { result ≡ length self.now.pad.log }
     {
         self.pad.revision()
+    }
+
+    /// The number of the revision that is asked for.
+    pub fn number_of(&mut self, alloc: Global, asked: RevisionChoice) -> Result<u64, Trouble>
+        ensures told { IfOk result
+            (λ rev. rev ≡ choices.number_of asked self.old.pad.log self.old.pad.times) }
+        ensures kept { OnOk result (self.new.pad.log ≡ self.old.pad.log) }
+        ensures fault { IfErr result IsNoDamage }
+    {
+        match asked {
+            RevisionChoice::Present => Ok(self.revision()),
+            RevisionChoice::Number(rev) => Ok(u64::from(rev)),
+            RevisionChoice::At(moment) => self.revision_at(alloc, moment),
+        }
+    }
+
+    // The last revision that was made not later than a moment, in milliseconds since 1970.
+    fn revision_at(&mut self, alloc: Global, moment: u64) -> Result<u64, Trouble>
+        ensures told { IfOk result (λ rev. rev ≡ count_until moment self.old.pad.times) }
+        ensures kept { OnOk result (self.new.pad.log ≡ self.old.pad.log) }
+        ensures fault { IfErr result IsNoDamage }
+    {
+        let Ok(moments) = one(alloc, moment) else {
+            return Err(Trouble::Memory);
+        };
+        let act = Act::RevsAt { moments };
+        match self.ask(alloc, &act)? {
+            PadReply::RevsAt { revs, .. } => match revs.as_slice() {
+                [rev] => Ok(*rev),
+                _ => Err(Trouble::Unread),
+            },
+            _ => Err(Trouble::Unread),
+        }
     }
 
     /// The text of a revision; None is the present one.
@@ -123,8 +159,7 @@ impl InspectedPad {
 
     // Makes an act on the pad as its owner.
     fn ask(&mut self, alloc: Global, act: &Act) -> Result<PadReply, Trouble>
-        ensures told { IfOk result (λ answer. IsTold act.now answer self.old.pad.log
-            self.new.pad.log) }
+        ensures told { IfOk result (λ answer. IsTold act.now answer self.old.pad self.new.pad) }
         ensures fault { IfErr result IsNoDamage }
     {
         let event = PadEvent {
@@ -140,9 +175,19 @@ impl InspectedPad {
     }
 }
 
+// One number as a list.
+fn one(alloc: Global, number: u64) -> Result<Items<u64>, AllocError>
+    ensures { IfOk result (λ numbers. numbers ≡ number ∷ []) }
+{
+    let mut numbers = Items::new(alloc);
+    numbers.push(number)?;
+    Ok(numbers)
+}
+
 // Loads the pad with this name from the bytes of its file.
 fn load_pad(alloc: Global, name: &str, bytes: &[u8]) -> Result<Loaded<BlockSeq>, Trouble>
-    ensures { MatchResult result (λ loaded. LeadTo bytes.now loaded.pad.log)
+    ensures { MatchResult result (λ loaded. LeadTo bytes.now loaded.pad.log
+        loaded.pad.times)
         (λ trouble. IsFault bytes.now trouble) }
 {
     match load(alloc, 1, DEFAULT_PRESENT, name, bytes) {
@@ -151,34 +196,37 @@ fn load_pad(alloc: Global, name: &str, bytes: &[u8]) -> Result<Loaded<BlockSeq>,
     }
 }
 
-// Lets the owner join the pad that was loaded.
-fn begin(alloc: Global, loaded: Loaded<BlockSeq>, names: FileNames) -> Result<InspectedPad, Trouble>
-    ensures { MatchResult result (λ book. book.pad.log ≡ loaded.pad.log) IsNoDamage }
+// Lets the owner join the pad that was loaded from these bytes.
+fn begin(
+    alloc: Global,
+    mut loaded: Loaded<BlockSeq>,
+    name: Name,
+    bytes: &[u8],
+) -> Result<InspectedPad, Trouble>
+    ensures { MatchResult result (λ book. (book.pad.log ≡ loaded.pad.log)
+        × (book.pad.times ≡ loaded.pad.times)) IsNoDamage }
 {
-    let Loaded {
-        mut pad,
-        sum,
-        whole,
-        cut,
-        ..
-    } = loaded;
-    let FileNames { pad: name, owner } = names;
-    let owner = Who::Author(owner);
-    let visit = join(alloc, &mut pad, name.as_str(), &owner)?;
+    let whole = bytes.len().min(loaded.whole as usize);
+    let owner = match owner_in(alloc, &bytes[..whole]) {
+        Ok(owner) => Who::Author(owner),
+        Err(_) => return Err(Trouble::Memory),
+    };
+    let visit = join(alloc, &mut loaded.pad, name.as_str(), &owner)?;
     Ok(InspectedPad {
-        pad,
+        pad: loaded.pad,
         name,
         owner,
         visit,
-        sum,
-        whole,
-        cut,
+        sum: loaded.sum,
+        whole: loaded.whole,
+        cut: loaded.cut,
     })
 }
 
 // Lets an author join a pad, and returns the visit.
 fn join(alloc: Global, pad: &mut Pad<BlockSeq>, name: &str, who: &Who) -> Result<u64, Trouble>
-    ensures { MatchResult result (λ _. pad.new.log ≡ pad.old.log) IsNoDamage }
+    ensures { MatchResult result (λ _. (pad.new.log ≡ pad.old.log)
+        × (pad.new.times ≡ pad.old.times)) IsNoDamage }
 {
     let event = PadEvent {
         pad: name,

@@ -1,8 +1,9 @@
 //! The log of a pad: who did what, and when.
 use crate::failure::StoreFailure;
 use crate::inspected_pad::InspectedPad;
+use crate::log_filter::LogFilter;
 use crate::operation::{Operation, kind_of, operation_on};
-use crate::other_line::other_line;
+use crate::other_line::{name_on, named_line, other_line};
 use crate::pieces::{put_words, words};
 use crate::progress_report::ProgressReport;
 use crate::trouble::Trouble;
@@ -12,16 +13,16 @@ use std::alloc::{AllocError, Global};
 use std::io::Write;
 use std::rt::Runtime;
 
-/// Prints a line for each revision from one on.
+/// Prints a line for each revision that is listed, and for each name that one was given.
 pub fn log<'a, R: Runtime<A = Global>, W: Write>(
     rt: &R,
     path: &'a str,
     bytes: &[u8],
-    from: u64,
+    filter: LogFilter<'_>,
     out: &mut W,
 ) -> Result<(), StoreFailure<'a>> {
     match InspectedPad::read(rt.alloc(), bytes) {
-        Ok(mut book) => put_lines(rt, path, &mut book, bytes, from, out),
+        Ok(mut book) => put_lines(rt, path, &mut book, bytes, filter, out),
         Err(trouble) => Err(StoreFailure::of_pad(path, trouble)),
     }
 }
@@ -32,7 +33,7 @@ fn put_lines<'a, R: Runtime<A = Global>, W: Write>(
     path: &'a str,
     book: &mut InspectedPad,
     bytes: &[u8],
-    from: u64,
+    filter: LogFilter<'_>,
     out: &mut W,
 ) -> Result<(), StoreFailure<'a>> {
     let mut progress = ProgressReport::start(rt);
@@ -42,10 +43,14 @@ fn put_lines<'a, R: Runtime<A = Global>, W: Write>(
     for line in bytes[..whole].split(|byte| *byte == b'\n') {
         if let Some(done) = operation_on(rt.alloc(), line)? {
             rev = rev.saturating_add(1);
-            if rev >= from {
+            if filter.lists(rev, done.op.author.as_str(), done.at) {
                 put_line(rt.alloc(), path, book, rev, &done, out)?;
             }
             progress.report(rt, "revision", rev, all);
+        } else if let Some(named) = name_on(rt.alloc(), line)? {
+            if filter.lists(rev, named.author.as_str(), named.at) {
+                out.write_all(named_line(rt.alloc(), &named)?.as_bytes())?;
+            }
         }
     }
     Ok(())
@@ -111,12 +116,17 @@ fn line_of(
     rev: u64,
     done: &Operation<'_>,
 ) -> Result<String, Trouble> {
-    let time = time_of(alloc, done.at)?;
+    let time = time_of(alloc, seconds_of(done.at))?;
     let name = done.op.author.as_str();
     let origin = done.op.name.origin;
     let kind = kind_of(done.op.parts.as_slice());
     let words = words_of(alloc, book, rev, done)?;
     Ok(format!(in alloc; "{rev} {time} {name}@{origin} {kind}{words}\n")?)
+}
+
+/// The seconds of a time in milliseconds, or None for 0, which a line has without a time.
+pub fn seconds_of(at: u64) -> Option<u64> {
+    if at == 0 { None } else { Some(at / 1000) }
 }
 
 /// A time in UTC, or `-` if there is none.

@@ -12,13 +12,16 @@ mod file_names;
 mod files;
 mod inspected_pad;
 mod log;
+mod log_filter;
 mod mode;
+mod moment;
 mod operation;
 mod options;
 mod other_line;
 mod parting;
 mod pieces;
 mod progress_report;
+mod revision_choice;
 mod show;
 mod trouble;
 mod view;
@@ -32,6 +35,7 @@ use export::{export, find};
 use failure::StoreFailure;
 use files::read_file;
 use mode::StoreMode;
+use revision_choice::RevisionChoice;
 use show::show;
 use std::alloc::Global;
 use std::io;
@@ -131,20 +135,16 @@ fn tell<'a, W: Write>(
 ) -> Result<(), StoreFailure<'a>> {
     let alloc = rt.alloc();
     let text = match mode {
-        StoreMode::Show { rev, view, .. } => shown(alloc, bytes, rev.map(u64::from), view),
+        StoreMode::Show { rev, view, .. } => shown(alloc, bytes, rev, view),
         StoreMode::Diff { rev, to, .. } => {
-            if to < rev {
-                return Err(StoreFailure::Backwards);
+            match diff(alloc, bytes, rev, to, rt.stdout().is_terminal()) {
+                Ok(Some(text)) => Ok(text),
+                Ok(None) => return Err(StoreFailure::Backwards),
+                Err(trouble) => Err(trouble),
             }
-            let coloured = rt.stdout().is_terminal();
-            diff(alloc, bytes, u64::from(rev), u64::from(to), coloured)
         }
-        StoreMode::Log { from, .. } => {
-            return log::log(rt, path, bytes, u64::from(from.unwrap_or(1)), out);
-        }
-        StoreMode::Export { rev, .. } => {
-            return export(rt, path, bytes, rev.map(u64::from), out);
-        }
+        StoreMode::Log { filter, .. } => return log::log(rt, path, bytes, filter, out),
+        StoreMode::Export { rev, .. } => return export(rt, path, bytes, rev, out),
         StoreMode::Find { sum, .. } => return find(alloc, path, bytes, sum, out),
         StoreMode::Check { .. } | StoreMode::Beyond { .. } => return Ok(()),
     };
@@ -154,16 +154,16 @@ fn tell<'a, W: Write>(
     }
 }
 
-/// A revision as a view shows it.
+/// The revision that is asked for, as a view shows it.
 fn shown(
     alloc: Global,
     bytes: &[u8],
-    rev: Option<u64>,
-    asked: View,
+    asked: RevisionChoice,
+    view: View,
 ) -> Result<String, trouble::Trouble> {
-    if asked.is_plain() {
-        show(alloc, bytes, rev)
+    if view.is_plain() {
+        show(alloc, bytes, asked)
     } else {
-        viewed(alloc, bytes, rev, asked)
+        viewed(alloc, bytes, asked, view)
     }
 }

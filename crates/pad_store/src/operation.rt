@@ -10,8 +10,8 @@ use store_records::Record;
 /// An operation, with the other fields of its line.
 #[derive(Drop)]
 pub struct Operation<'a> {
-    /// The time in seconds since 1970, if the line has one.
-    pub at: Option<u64>,
+    /// The time in milliseconds since 1970, or 0 if the line has none.
+    pub at: u64,
     pub op: Op,
     /// The operation as JSON.
     pub json: String,
@@ -27,16 +27,12 @@ pub fn operation_on(alloc: Global, line: &[u8]) -> Result<Option<Operation<'_>>,
     let Some(value) = value_of(alloc, text)? else {
         return Ok(None);
     };
-    let at = match value.get("at") {
-        Some(at) => at.as_u64(),
-        None => None,
-    };
     let json = match value.get("op") {
         Some(op) => op.to_string(alloc)?,
         None => return Ok(None),
     };
     match read_entry(alloc, &value) {
-        Ok(StoreLine::Record(Record::Delivered { op })) => Ok(Some(Operation {
+        Ok(StoreLine::Record(Record::Delivered { at, op })) => Ok(Some(Operation {
             at,
             op,
             json,

@@ -1,5 +1,5 @@
 //! The options of the command line.
-ghost use Rattle.std.specs.Prelude.{◌≡◌, ℕ, codes, false, unwrap_or};
+ghost use Rattle.std.specs.Prelude.{◌≡◌, ℕ, false, unwrap_or};
 ghost use Rattle.clap.specs.Words.{rule_of};
 ghost use Rattle.command_line.specs.Options.{Holds, flag_rule, option_rule};
 ghost use Rattle.pad_store.specs.CommandLine.{needed_word};
@@ -18,21 +18,11 @@ pub fn word<'a>(alloc: Global, name: &'a str, shown: &'a str, help: &'a str) -> 
         .help(help)
 }
 
-/// A revision or a path as a positional argument.
-pub fn other_word<'a>(alloc: Global, name: &'a str, help: &'a str) -> Arg<'a>
+/// A revision, a moment or a path as a positional argument.
+pub fn other_word<'a>(alloc: Global, name: &'a str, shown: &'a str, help: &'a str) -> Arg<'a>
     ensures { (rule_of result ≡ command_line.other_word name.now) × (result.global ≡ false) }
 {
-    Arg::new(alloc, name).value_name("OTHER").help(help)
-}
-
-/// A revision as a positional argument.
-pub fn revision_word<'a>(alloc: Global, name: &'a str, help: &'a str) -> Arg<'a>
-    ensures { (rule_of result ≡ command_line.revision_word name.now) × (result.global ≡ false) }
-{
-    Arg::new(alloc, name)
-        .value_name("REV")
-        .value_parser(value_parser!(u32).range(0..))
-        .help(help)
+    Arg::new(alloc, name).value_name(shown).help(help)
 }
 
 /// An option that takes a revision.
@@ -46,13 +36,14 @@ pub fn revision_option<'a>(alloc: Global, name: &'a str, help: &'a str) -> Arg<'
         .help(help)
 }
 
-/// `--sum S`.
-pub fn sum_option<'a>(alloc: Global) -> Arg<'a>
-    ensures { (rule_of result ≡ option_rule (codes "sum")) × (result.global ≡ false) }
+/// An option that takes a text.
+pub fn text_option<'a>(alloc: Global, name: &'a str, shown: &'a str, help: &'a str) -> Arg<'a>
+    ensures { (rule_of result ≡ option_rule name.now) × (result.global ≡ false) }
 {
-    Arg::new(alloc, "sum").long("sum").value_name("SUM").help(
-        "With export: prints nothing but says whether a line of the file has this sum",
-    )
+    Arg::new(alloc, name)
+        .long(name)
+        .value_name(shown)
+        .help(help)
 }
 
 /// An option that takes no value.

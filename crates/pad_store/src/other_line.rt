@@ -1,8 +1,11 @@
 //! The lines of a file that make no revision.
 use crate::chain::text_on;
-use crate::file_names::value_of;
-use crate::log::time_of;
+use crate::file_names::{entry_on, value_of};
+use crate::log::{seconds_of, time_of};
+use crate::pieces::quoted;
+use named_revisions::NamedRevision;
 use pad_model::Refusal;
+use rights::Grantee;
 use serde_json::Value;
 use std::alloc::{AllocError, Global};
 use store_format::{StoreLine, read_entry};
@@ -25,6 +28,23 @@ pub fn other_line(alloc: Global, line: &[u8]) -> Result<String, AllocError> {
     }
 }
 
+/// The name that a line gives to a revision; None if it gives none.
+pub fn name_on(alloc: Global, line: &[u8]) -> Result<Option<NamedRevision>, AllocError> {
+    match entry_on(alloc, line)? {
+        Some(StoreLine::Record(Record::Marked { named })) => Ok(Some(named)),
+        _ => Ok(None),
+    }
+}
+
+/// The output line for a name that a revision was given.
+pub fn named_line(alloc: Global, named: &NamedRevision) -> Result<String, AllocError> {
+    let time = time_of(alloc, seconds_of(named.at))?;
+    let author = named.author.as_str();
+    let rev = named.rev;
+    let text = quoted(alloc, named.text.as_slice())?;
+    format!(in alloc; "- {time} {author} mark {rev} {text}\n")
+}
+
 // The output line for a line whose meaning is known.
 fn line_with(
     alloc: Global,
@@ -37,12 +57,24 @@ fn line_with(
         StoreLine::Record(Record::Named { owner, .. }) => {
             format!(in alloc; "- {time} {} create\n", owner.as_str())
         }
-        StoreLine::Record(Record::Granted { author, .. }) => {
+        StoreLine::Record(Record::Granted { grantee, .. }) => {
             let right = text_at(value, "right");
-            format!(in alloc; "- {time} - right {} {right}\n", author.as_str())
+            format!(in alloc; "- {time} - right {} {right}\n", word_of(grantee))
         }
+        StoreLine::Record(Record::Handed { author }) => {
+            format!(in alloc; "- {time} - owner {}\n", author.as_str())
+        }
+        StoreLine::Record(Record::Marked { named }) => named_line(alloc, named),
         StoreLine::Record(Record::Visited) => format!(in alloc; "- {time} - visit\n"),
         StoreLine::Record(Record::Delivered { .. }) => unknown(alloc),
+    }
+}
+
+// The name of an author, or `*` for everyone.
+fn word_of(grantee: &Grantee) -> &str {
+    match grantee {
+        Grantee::Author(name) => name.as_str(),
+        Grantee::Everyone => "*",
     }
 }
 

@@ -3,19 +3,24 @@ ghost use Rattle.std.specs.Prelude.{IfOk, IfErr, string_bytes};
 ghost use Rattle.pad_store.specs.Reading.{IsFault, Shows};
 
 use crate::inspected_pad::InspectedPad;
+use crate::revision_choice::RevisionChoice;
 use crate::trouble::Trouble;
 use std::alloc::Global;
 
-/// What `show` prints: the text of a revision of the pad that the bytes of its file lead to; None is the present one.
-pub fn show(alloc: Global, bytes: &[u8], rev: Option<u64>) -> Result<String, Trouble>
-    ensures shown { IfOk result (λ text. Shows bytes.now rev (string_bytes text)) }
+/// What `show` prints: the text of the revision that is asked for, of the pad that the bytes of its file lead to.
+pub fn show(alloc: Global, bytes: &[u8], asked: RevisionChoice) -> Result<String, Trouble>
+    ensures shown { IfOk result (λ text. Shows bytes.now asked (string_bytes text)) }
     ensures fault { IfErr result (λ trouble. IsFault bytes.now trouble) }
 {
     let mut book = match InspectedPad::read(alloc, bytes) {
         Ok(book) => book,
         Err(trouble) => return Err(trouble),
     };
-    let text = match book.text(alloc, rev) {
+    let rev = match book.number_of(alloc, asked) {
+        Ok(rev) => rev,
+        Err(trouble) => return Err(trouble),
+    };
+    let text = match book.text(alloc, Some(rev)) {
         Ok(text) => text,
         Err(trouble) => return Err(trouble),
     };

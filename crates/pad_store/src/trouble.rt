@@ -8,7 +8,7 @@ use store_format::Damage;
 use thiserror::Error;
 
 /// Why a revision of a file's pad could not be read.
-#[derive(Clone, Copy, Debug, PartialEq, Eq, Error)]
+#[derive(Clone, Copy, Debug, Error)]
 pub enum Trouble {
     #[error("900 Memory")]
     Memory,

@@ -1,6 +1,7 @@
 //! A revision with its authors and comments, as text or as Markdown.
 use crate::inspected_pad::InspectedPad;
 use crate::pieces::{quoted, split};
+use crate::revision_choice::RevisionChoice;
 use crate::trouble::Trouble;
 use comments::Shown;
 use pad_model::{AuthorRun, Items, Text};
@@ -8,7 +9,7 @@ use std::alloc::{AllocError, Global};
 use std::fmt::Write;
 
 /// What is shown beside the text of a revision, and how.
-#[derive(Clone, Copy, Debug, PartialEq, Eq)]
+#[derive(Clone, Copy)]
 pub struct View {
     pub authors: bool,
     pub comments: bool,
@@ -22,16 +23,16 @@ impl View {
     }
 }
 
-/// A revision as a view shows it; None is the present one.
+/// The revision that is asked for, as a view shows it.
 pub fn viewed(
     alloc: Global,
     bytes: &[u8],
-    rev: Option<u64>,
+    asked: RevisionChoice,
     view: View,
 ) -> Result<String, Trouble> {
     match InspectedPad::read(alloc, bytes) {
         Ok(mut book) => {
-            let at = rev.unwrap_or(book.revision());
+            let at = book.number_of(alloc, asked)?;
             view_of(alloc, &mut book, at, view)
         }
         Err(trouble) => Err(trouble),

@@ -17,7 +17,7 @@ use wire_lines::{Fault, Std, Watched};
 const WHOLE: u64 = 60;
 
 /// Why a round failed.
-#[derive(Clone, Copy, Debug)]
+#[derive(Clone, Copy)]
 pub enum BrokenRound {
     /// There was no connection.
     Apart(io::Error),

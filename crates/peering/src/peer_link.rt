@@ -28,7 +28,7 @@ const FIRST_PAUSE: u64 = 1;
 const LONGEST_PAUSE: u64 = 60;
 
 /// The outcome of a round with a peer.
-#[derive(Clone, Copy, Debug, PartialEq, Eq)]
+#[derive(Clone, Copy, PartialEq, Eq)]
 pub enum Brought {
     /// It brought no operation that this server lacked.
     Nothing,

@@ -22,7 +22,7 @@ use wire_json::{Told, pull_line};
 use wire_lines::Fault;
 
 /// The outcome of a turn.
-#[derive(Clone, Copy, Debug, PartialEq, Eq)]
+#[derive(Clone, Copy)]
 pub enum PullTurn {
     /// An operation was delivered here, so another turn may follow.
     Gained,

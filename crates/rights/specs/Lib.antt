@@ -1,2 +1,3 @@
 -- The definitions that the contracts cite, by topic.
+pub mod Laws
 pub mod Rights

@@ -1,28 +1,32 @@
-ghost use Rattle.std.specs.Prelude.{◌≡◌, ◌+◌, ◌&&◌, not, nat_le, is_some, length, [], None, MatchResult};
+ghost use Rattle.std.specs.Prelude.{◌≡◌, ◌+◌, ◌&&◌, not, nat_le, is_some, length, [], ◌∷◌, None, IfOk, MatchResult, bytes_eq};
 ghost use Rattle.pad_model.specs.Answers.{Answers};
 ghost use Rattle.rights.specs.declared.book.TheConstants.{MAX_GRANTS};
-ghost use Rattle.rights.specs.Rights.{grant, granted, listed, may, right_of};
+ghost use Rattle.rights.specs.declared.grantee.Grantee.TheVariants.{Author};
+ghost use Rattle.rights.specs.Rights.{as_everyone, everyone_listed, grant, granted, greater, hand, listed, may, right_of};
 
+use crate::grantee::Grantee;
 use crate::right::Right;
 use indexmap::IndexMap;
 use pad_model::{Items, Name, Refusal};
-use std::alloc::Global;
+use std::alloc::{AllocError, Global};
 use std::marker::Model;
 
-/// The most names that may have a right, the creator included.
+/// The most names that may have a right of their own, the owner included.
 pub const MAX_GRANTS: u64 = 256;
 
-/// A name and its right on the pad.
+/// Who has a right on the pad, and which.
 #[derive(Clone, Debug, PartialEq, Drop)]
 pub struct Grant {
-    pub name: Name,
+    pub grantee: Grantee,
     pub right: Right,
 }
 
-/// The rights of a pad: its creator's, and those granted, in the order in which they were first granted.
+/// The rights of a pad: its owner's, that of everyone, and those of authors, in the order in which they were first
+/// granted.
 #[derive(Drop)]
 pub struct RightsBook {
     owner: Name,
+    everyone: Option<Right>,
     grants: IndexMap<Name, Right>,
 }
 
@@ -32,7 +36,11 @@ impl Model for RightsBook {
 
     ghost Value = { Rights };
 
-    ghost view = { λ b. record { owner = b.owner; grants = b.grants.entries } };
+    ghost view = { λ b. record {
+      owner = b.owner;
+      everyone = b.everyone;
+      grants = b.grants.entries;
+    } };
 
     ghost invariant = { λ b. IsBook b.owner b.grants.entries };
 }
@@ -40,15 +48,16 @@ impl Model for RightsBook {
 impl RightsBook {
     /// The book of a pad that `owner` created. It allocates no memory.
     pub fn new(alloc: Global, owner: Name) -> RightsBook
-        ensures { result ≡ record { owner = owner; grants = [] } }
+        ensures { result ≡ record { owner = owner; everyone = None; grants = [] } }
     {
         RightsBook {
             owner,
+            everyone: None,
             grants: IndexMap::new(alloc),
         }
     }
 
-    /// The creator.
+    /// The owner.
     pub fn owner(&self) -> &str
         ensures { result.now ≡ self.now.owner }
     {
@@ -65,22 +74,49 @@ impl RightsBook {
         }
     }
 
-    /// The right of an author, or None. A right includes those before it, so every right includes `Read`.
+    /// The right of an author, or None: `Own` for the owner, and otherwise the greater of what was granted to the
+    /// author and to everyone. A right includes those before it, so every right includes `Read`.
     pub fn right_of(&self, name: &Name) -> Option<Right>
         ensures { result ≡ right_of self.now name.now }
     {
         if *name == self.owner {
             return Some(Right::Own);
         }
-        self.grants.get(name).copied()
+        greater(self.grants.get(name).copied(), self.as_everyone(name))
     }
 
-    /// Sets the right of an author, in place of an earlier one, or revokes it (None).
-    pub fn grant(&mut self, name: &Name, right: Option<Right>) -> Result<(), Refusal>
-        ensures answer { Answers self.old (grant self.old name.now right) result self.new }
+    /// The right that a name has as everyone has it, or None. Only a name that an author can have has one.
+    fn as_everyone(&self, name: &Name) -> Option<Right>
+        ensures { result ≡ as_everyone self.now.everyone name.now }
+    {
+        let right = self.everyone?;
+        if name.is_well_formed() {
+            Some(right)
+        } else {
+            None
+        }
+    }
+
+    /// Sets the right of an author or of everyone, in place of an earlier one, or revokes it (None).
+    pub fn grant(&mut self, grantee: &Grantee, right: Option<Right>) -> Result<(), Refusal>
+        ensures answer { Answers self.old (grant self.old grantee.now right) result self.new }
 
         // Revoking a right needs no memory.
-        ensures taken { right ≡ None → grant self.old name.now right ≡ (result, self.new) }
+        ensures taken { right ≡ None → grant self.old grantee.now right ≡ (result, self.new) }
+    {
+        match grantee {
+            Grantee::Author(name) => self.grant_author(name, right),
+            Grantee::Everyone => {
+                self.everyone = right;
+                Ok(())
+            }
+        }
+    }
+
+    /// Sets or revokes the right of an author.
+    fn grant_author(&mut self, name: &Name, right: Option<Right>) -> Result<(), Refusal>
+        ensures answer { Answers self.old (grant self.old (Author name.now) right) result self.new }
+        ensures taken { right ≡ None → grant self.old (Author name.now) right ≡ (result, self.new) }
     {
         if *name == self.owner {
             return Err(Refusal::OwnerKept);
@@ -96,6 +132,30 @@ impl RightsBook {
         Ok(())
     }
 
+    /// Makes an author the owner; the owner before it may write from then on. It changes nothing for the owner itself.
+    pub fn hand(&mut self, name: &Name) -> Result<(), Refusal>
+        ensures { Answers self.old (hand self.old name.now) result self.new }
+    {
+        if *name == self.owner {
+            return Ok(());
+        }
+        if self.is_full_for(name) {
+            return Err(Refusal::GrantsFull);
+        }
+        let owner = name.clone()?;
+        self.grants.insert(self.owner.clone()?, Right::Write)?;
+        self.grants.shift_remove(&owner);
+        self.owner = owner;
+        Ok(())
+    }
+
+    /// Whether the name is the owner's.
+    pub fn is_owner(&self, name: &Name) -> bool
+        ensures { result ≡ bytes_eq name.now self.now.owner }
+    {
+        *name == self.owner
+    }
+
     /// Whether the name is new and the book is full.
     fn is_full_for(&self, name: &Name) -> bool
         ensures { result ≡ (not (is_some (granted self.now.grants name.now))
@@ -104,21 +164,48 @@ impl RightsBook {
         !self.grants.contains_key(name) && self.grants.len() as u64 + 1 >= MAX_GRANTS
     }
 
-    /// All names with their rights: the creator first, then the grants in the order in which they were first granted.
+    /// All who have a right: the owner first, then everyone, then the authors in the order in which they were first
+    /// granted one.
     pub fn list(&self, alloc: Global) -> Result<Items<Grant>, Refusal>
         ensures { MatchResult result (λ rows. rows ≡ listed self.now) (λ e. e ≡ Refusal.Memory) }
     {
-        let mut rows = Items::new(alloc);
-        rows.push(Grant {
-            name: self.owner.clone()?,
-            right: Right::Own,
-        })?;
+        let mut rows = self.first_rows(alloc)?;
         for (name, right) in self.grants.iter() {
             rows.push(Grant {
-                name: name.clone()?,
+                grantee: Grantee::Author(name.clone()?),
                 right: *right,
             })?;
         }
         Ok(rows)
+    }
+
+    /// The owner, and everyone if everyone has a right.
+    fn first_rows(&self, alloc: Global) -> Result<Items<Grant>, AllocError>
+        ensures { IfOk result (λ rows. rows ≡ record { grantee = Author self.now.owner; right = Right.Own }
+            ∷ everyone_listed self.now.everyone) }
+    {
+        let mut rows = Items::new(alloc);
+        rows.push(Grant {
+            grantee: Grantee::Author(self.owner.clone()?),
+            right: Right::Own,
+        })?;
+        if let Some(right) = self.everyone {
+            rows.push(Grant {
+                grantee: Grantee::Everyone,
+                right,
+            })?;
+        }
+        Ok(rows)
+    }
+}
+
+/// The greater of two rights, if there are any.
+fn greater(held: Option<Right>, other: Option<Right>) -> Option<Right>
+    ensures { result ≡ greater held other }
+{
+    match (held, other) {
+        (_, None) => held,
+        (None, Some(_)) => other,
+        (Some(right), Some(more)) => { if right.includes(more) { held } else { other } }
     }
 }

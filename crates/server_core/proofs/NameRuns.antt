@@ -68,6 +68,7 @@ ask-stands names replica accounts (request.Hello name token) a h = h
 ask-stands names replica accounts (request.Peer number token version) a h = h
 ask-stands names replica accounts (request.Create name) a h = begun-create names name a (create_refusal a.who name) h
 ask-stands names replica accounts request.Pads a h = begun-list names a (pads_refusal a.who) h
+ask-stands names replica accounts (request.People authors) a h = h
 ask-stands names replica accounts (request.On name act) a h = begun-on names name act a (act_refusal a.who name act) h
 
 busy-stands : (names : List (Option (List ℕ))) (a : Actor) (done : Moved × Actor) → ActorStands names a →

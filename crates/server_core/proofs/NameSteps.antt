@@ -18,7 +18,7 @@ use Rattle.sessions.specs.Accounts.{Accounts}
 use Rattle.presence.specs.Presence.{joined}
 use Rattle.sessions.specs.Session.{is_of}
 use Rattle.sessions.specs.declared.session.Room.{Room}
-use Rattle.pad_core.specs.Machine.{Machine, claim, name_of, now_of, step}
+use Rattle.pad_core.specs.Machine.{Machine, claim, name_of, new_owned, now_of, step}
 use Rattle.pad_core.specs.declared.act.Act.{Act}
 use Rattle.pad_core.specs.declared.act.Act.TheVariants as act
 use Rattle.pad_core.specs.declared.event.Claim.{Claim}
@@ -52,6 +52,7 @@ abbrev pub RequestStands : List (Option (List ℕ)) → Request → ℕ → Type
 RequestStands names (request.Create name) cell = IsBehind names name cell
 RequestStands names (request.On name act) cell = Unit {0}
 RequestStands names request.Pads cell = Unit {0}
+RequestStands names (request.People authors) cell = Unit {0}
 RequestStands names (request.Hello name token) cell = Unit {0}
 RequestStands names (request.Peer number token version) cell = Unit {0}
 
@@ -76,6 +77,7 @@ request-stays old new (request.Create name) cell stay (inl passed) = inl (passed
 request-stays old new (request.Create name) cell stay (inr here) = inr (stay cell name here)
 request-stays old new (request.On name act) cell stay h = h
 request-stays old new request.Pads cell stay h = h
+request-stays old new (request.People authors) cell stay h = h
 request-stays old new (request.Hello name token) cell stay h = h
 request-stays old new (request.Peer number token version) cell stay h = h
 
@@ -211,7 +213,7 @@ behind-other cells name other cell m e there differs (inr here) =
 claim-new : (name owner : List ℕ) (m : Machine) → m.owned ≡ None →
     claim name owner m ≡ (
       Ok (Created (m.presence.given + 1)),
-      record m { owned = Some (record { name = name; rights = record { owner = owner; grants = [] } }); presence = joined owner m.presence },
+      record m { owned = Some (new_owned name owner); presence = joined owner m.presence },
     )
 claim-new name owner m none = rw none refl
 
@@ -297,6 +299,8 @@ visit-leaves cells (Peer number version) (request.Create name) cell rooms m e h 
     (λ goes. absurd (refused-stops NoSession cell (length (slice_set cells cell m)) goes))
 visit-leaves cells who request.Pads cell rooms m e h stands =
     back-leaves cells request.Pads cell rooms m (Err NoSession) e h (λ goes. tt)
+visit-leaves cells who (request.People authors) cell rooms m e h stands =
+    back-leaves cells (request.People authors) cell rooms m (Err NoSession) e h (λ goes. tt)
 visit-leaves cells who (request.Hello name token) cell rooms m e h stands =
     back-leaves cells (request.Hello name token) cell rooms m (Err NoSession) e h (λ goes. tt)
 visit-leaves cells who (request.Peer number token version) cell rooms m e h stands =

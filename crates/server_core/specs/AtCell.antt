@@ -17,7 +17,7 @@ use Rattle.pad_core.specs.declared.reply.PadReply.TheVariants as pad
 use Rattle.pad_core.specs.declared.reply.Reply.{Reply}
 use Rattle.pad_core.specs.declared.reply.Reply.TheVariants as reply
 use Rattle.pad_core.specs.declared.request.Request.{Request}
-use Rattle.pad_core.specs.declared.request.Request.TheVariants.{Hello, Peer as PeerRequest, Create, Pads, On}
+use Rattle.pad_core.specs.declared.request.Request.TheVariants.{Hello, Peer as PeerRequest, Create, Pads, People, On}
 use Rattle.server_core.specs.Actor.{visit_on}
 
 -- what a cell answers, or nothing if the request goes on to the next one; and the session's rooms and the cell
@@ -67,6 +67,7 @@ abbrev pub request_at : Who → Request → ℕ → List Room → Machine → Ce
 request_at who (On name act) cell rooms m = act_at who name act cell rooms m
 request_at who (Create name) cell rooms m = create_at who name cell rooms m
 request_at who Pads cell rooms m = (Err NoSession, rooms, m)
+request_at who (People authors) cell rooms m = (Err NoSession, rooms, m)
 request_at who (Hello name token) cell rooms m = (Err NoSession, rooms, m)
 request_at who (PeerRequest number token version) cell rooms m = (Err NoSession, rooms, m)
 

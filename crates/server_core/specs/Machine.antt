@@ -30,6 +30,8 @@ unnamed replica present = record {
   log = [];
   held = [];
   presence = nobody_present present;
+  clock = 0;
+  times = [];
 }
 
 -- a server with a row of cells without names, and without actors

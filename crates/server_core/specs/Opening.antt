@@ -1,6 +1,6 @@
 -- How a session becomes an author's or a peer's, and what a request requires of its session.
-use Rattle.std.specs.Prelude.{ℕ, Bool, true, false, not, ◌&&◌, nat_lt, if◌then◌else◌, List, Option, Some, None, Result}
-use Rattle.std.specs.Prelude.{Ok, Err}
+use Rattle.std.specs.Prelude.{ℕ, Bool, true, false, not, ◌&&◌, nat_lt, if◌then◌else◌, List, [], ◌∷◌, ◌++◌, fold}
+use Rattle.std.specs.Prelude.{Option, Some, None, Result, Ok, Err}
 use Rattle.pad_model.specs.Checked.{is_name, is_within}
 use Rattle.pad_model.specs.declared.limits.TheConstants.{MAX_REPLICA, OLD_REPLICA}
 use Rattle.pad_model.specs.declared.refusal.Refusal.{Refusal}
@@ -10,8 +10,10 @@ use Rattle.pad_model.specs.declared.who.Version.TheVariants.{One, Two}
 use Rattle.pad_model.specs.declared.who.Who.{Who}
 use Rattle.pad_model.specs.declared.who.Who.TheVariants as who
 use Rattle.sessions.specs.Accounts.{Accounts, is_author, is_peer}
+use Rattle.sessions.specs.Users.{shown_for}
 use Rattle.pad_core.specs.Machine.{session_refusal}
 use Rattle.pad_core.specs.declared.act.Act.{Act}
+use Rattle.pad_core.specs.declared.reply.Person.{Person}
 use Rattle.pad_core.specs.declared.reply.Reply.{Reply}
 use Rattle.pad_core.specs.declared.reply.Reply.TheVariants as reply
 
@@ -45,6 +47,23 @@ peer replica accounts number token version old =
     then (Err BadToken, old)
     else if is_unsayable replica version then (Err OldPeer, old)
     else (Ok (reply.Peer replica version), who.Peer number version)
+
+-- the persons found so far, with one more if something is shown for it
+abbrev pub with_person : List Person → List ℕ → Option (List ℕ) → List Person
+with_person found author None = found
+with_person found author (Some name) = found ++ record { author = author; name = name } ∷ []
+
+-- those of these authors for whom something is shown: a display name, or the user of a proxy from whom the name is made; in
+-- their order
+abbrev pub people_of : Accounts → List (List ℕ) → List Person
+people_of accounts authors =
+    fold (λ found author. with_person found author (shown_for author accounts)) [] authors
+
+-- the display names of these authors, for a session of an author
+abbrev pub people : Accounts → List (List ℕ) → Who → Result Reply Refusal × Who
+people accounts authors who =
+    if is_of_author who then (Ok (reply.People (people_of accounts authors)), who)
+    else (Err NoSession, who)
 
 -- a session becomes a peer's without a token, to exchange operations with that peer
 abbrev pub relay : ℕ → ℕ → Who → Result Reply Refusal × Who

@@ -16,7 +16,7 @@ use Rattle.pad_core.specs.declared.request.Request.TheVariants as request
 use Rattle.server_core.specs.Actor.{Actor, first_cell, is_busy}
 use Rattle.server_core.specs.AtCell.{RowAnswer, row_answer, past_row}
 use Rattle.server_core.specs.Listing.{list_on}
-use Rattle.server_core.specs.Opening.{hello, peer, relay, create_refusal, pads_refusal, act_refusal}
+use Rattle.server_core.specs.Opening.{hello, peer, people, relay, create_refusal, pads_refusal, act_refusal}
 use Rattle.server_core.specs.declared.step.Moved.{Moved}
 use Rattle.server_core.specs.declared.step.Moved.TheVariants as moved
 use Rattle.server_core.specs.declared.step.Step.{Step}
@@ -53,6 +53,7 @@ ask replica accounts (request.Create name) a = begun (request.Create name) (firs
     a
     (create_refusal a.who name)
 ask replica accounts request.Pads a = list_begun a (pads_refusal a.who)
+ask replica accounts (request.People authors) a = opened a (people accounts authors a.who)
 ask replica accounts (request.On name act) a = begun (request.On name act) (first_cell name a.rooms)
     a
     (act_refusal a.who name act)

@@ -10,7 +10,7 @@ ghost use Rattle.server_core.specs.Steps as steps;
 ghost use Rattle.server_core.specs.declared.step.Moved.TheVariants as moved;
 ghost use Rattle.server_core.specs.declared.task.Task.TheVariants as doing;
 
-use crate::opening::{act_refusal, create_refusal, hello, pads_refusal, peer};
+use crate::opening::{act_refusal, create_refusal, hello, pads_refusal, peer, people};
 use crate::step::Moved;
 use crate::task::Task;
 use pad_core::{Reply, Request};
@@ -50,6 +50,7 @@ pub fn ask(
             Some(refusal) => Moved::Refused(refusal),
             None => begin_list(alloc, task),
         },
+        Request::People { names } => tell(people(alloc, accounts, names, session.who())),
         Request::On { pad, act } => match act_refusal(session.who(), pad, act) {
             Some(refusal) => Moved::Refused(refusal),
             None => begin(session, task, pad, request),

@@ -30,7 +30,8 @@ pub fn request_at<S: Sequence>(
     match request {
         Request::Create { pad } => create_at(alloc, cell, place, session, pad),
         Request::On { pad, act } => act_at(alloc, cell, place, session, pad, act),
-        Request::Hello { .. } | Request::Peer { .. } | Request::Pads => Err(Refusal::NoSession),
+        Request::Hello { .. } | Request::Peer { .. } | Request::Pads | Request::People { .. } =>
+            Err(Refusal::NoSession),
     }
 }
 

@@ -8,8 +8,8 @@ pub fn names_law()
     ensures { NamesLaw }
 {}
 
-/// New accounts affect only log-ins: every other step has the same result under any accounts, and leaves the same
-/// actors and pads. So sessions go on, even those of accounts that were removed.
+/// New accounts affect only log-ins and display names: every other step has the same result under any accounts, and
+/// leaves the same actors and pads. So sessions go on, even those of accounts that were removed.
 pub fn accounts_law()
     ensures { AccountsLaw }
 {}

@@ -19,7 +19,7 @@ mod task;
 pub use ask::first_cell;
 pub use at_cell::request_at;
 pub use limits::{DEFAULT_CELLS, MAX_ACTORS, MAX_CELLS};
-pub use opening::{act_refusal, create_refusal, hello, pads_refusal, peer, relay};
+pub use opening::{act_refusal, create_refusal, hello, pads_refusal, peer, people, relay};
 pub use scan::past_row;
 pub use server::Server;
 pub use step::{Event, Moved, Step};

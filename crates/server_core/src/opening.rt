@@ -1,11 +1,11 @@
 //! How a session becomes an author's or a peer's, and what a request requires of its session.
-ghost use Rattle.std.specs.Prelude.{◌≡◌};
+ghost use Rattle.std.specs.Prelude.{◌≡◌, MatchResult};
 ghost use Rattle.pad_model.specs.Answers.{Answers};
 ghost use Rattle.server_core.specs.Opening.{is_nobody, is_of_author, is_unsayable};
 ghost use Rattle.server_core.specs.Opening as opening;
 
-use pad_core::{Act, Reply, session_refusal};
-use pad_model::{Author, Name, OLD_REPLICA, Refusal, Version, Who};
+use pad_core::{Act, Person, Reply, session_refusal};
+use pad_model::{Author, Items, Name, OLD_REPLICA, Refusal, Version, Who};
 use sessions::{Accounts, Session, Word};
 use std::alloc::Global;
 
@@ -67,6 +67,36 @@ pub fn peer(
         version,
     });
     Ok(Reply::Peer { replica, version })
+}
+
+/// Answers with the display names of those of these authors who have one.
+pub fn people(
+    alloc: Global,
+    accounts: &Accounts,
+    authors: &Items<Name>,
+    who: &Who,
+) -> Result<Reply, Refusal>
+    ensures { Answers who.now (opening.people accounts.now authors.now who.now) result who.now }
+{
+    if !is_of_author(who) {
+        return Err(Refusal::NoSession);
+    }
+    let people = people_of(alloc, accounts, authors.as_slice())?;
+    Ok(Reply::People { people })
+}
+
+fn people_of(alloc: Global, accounts: &Accounts, authors: &[Name]) -> Result<Items<Person>, Refusal>
+    ensures { MatchResult result (λ people. people ≡ opening.people_of accounts.now authors.now)
+        (λ e. e ≡ Refusal.Memory) }
+{
+    let mut people = Items::new(alloc);
+    for author in authors {
+        if let Some(name) = accounts.shown_for(alloc, author)? {
+            let author = author.clone()?;
+            people.push(Person { author, name })?;
+        }
+    }
+    Ok(people)
 }
 
 /// Makes a session that of a peer, for exchange with it.

@@ -19,8 +19,8 @@ process_text numbers = build_text family.Build numbers.build.version.now numbers
 
 -- who is connected
 abbrev pub connected_text : ClientNumbers → List ℕ
-connected_text numbers = one_text family.Clients numbers.clients ++ (one_text family.PageRequests numbers.page_requests
-    ++ one_text family.PageConnections numbers.page_connections)
+connected_text numbers = one_text family.Clients numbers.clients ++ (one_text family.Visits numbers.visits
+    ++ (one_text family.PageRequests numbers.page_requests ++ one_text family.PageConnections numbers.page_connections))
 
 -- what was answered
 abbrev pub answered_text : ClientNumbers → List ℕ

@@ -8,6 +8,8 @@ use std::alloc::{AllocError, Global};
 pub struct ClientCounts {
     /// Connections that browsers opened.
     pub page_connections: Counter,
+    /// Visits that clients have now.
+    pub visits: Counter,
     /// The pads of the server.
     pub pads: Counter,
     /// Operations that were delivered on pads.
@@ -21,6 +23,7 @@ impl ClientCounts {
     pub fn new(alloc: Global) -> Result<ClientCounts, AllocError> {
         Ok(ClientCounts {
             page_connections: Counter::new(),
+            visits: Counter::new(),
             pads: Counter::new(),
             operations: Counter::new(),
             requests: Counter::new(),
@@ -36,6 +39,15 @@ impl ClientCounts {
         self.requests.add_one();
         if let Some(code) = code_of_reply(reply) {
             self.refusals.note(code);
+        }
+    }
+
+    /// Counts the visits of a client, which had so many before.
+    pub fn note_visits(&self, before: usize, now: usize) {
+        if now > before {
+            self.visits.add((now - before) as u64);
+        } else if now < before {
+            self.visits.take((before - now) as u64);
         }
     }
 

@@ -25,6 +25,11 @@ impl Counter {
         self.number.fetch_add(more, Ordering::SeqCst);
     }
 
+    /// Counts so many fewer. It wraps below 0.
+    pub fn take(&self, fewer: u64) {
+        self.number.fetch_sub(fewer, Ordering::SeqCst);
+    }
+
     /// Puts a number in the place of what was counted.
     pub fn set(&self, number: u64) {
         self.number.store(number, Ordering::SeqCst);

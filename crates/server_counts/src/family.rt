@@ -6,7 +6,7 @@ use std::fmt;
 use std::fmt::{Display, Formatter};
 
 /// What the samples of a family are.
-#[derive(Clone, Copy, Debug, PartialEq, Eq)]
+#[derive(Clone, Copy)]
 pub enum FamilyKind {
     /// It only grows, until the server ends.
     Counter,
@@ -29,12 +29,13 @@ impl Display for FamilyKind {
 }
 
 /// A family of samples.
-#[derive(Clone, Copy, Debug, PartialEq, Eq)]
+#[derive(Clone, Copy)]
 pub enum Family {
     Build,
     Uptime,
     Resident,
     Clients,
+    Visits,
     PageRequests,
     PageConnections,
     Pads,
@@ -63,6 +64,7 @@ impl Family {
             Family::Uptime => "uptime_seconds",
             Family::Resident => "resident_memory_bytes",
             Family::Clients => "clients",
+            Family::Visits => "visits",
             Family::PageRequests => "page_requests",
             Family::PageConnections => "page_connections_total",
             Family::Pads => "pads",
@@ -92,6 +94,7 @@ impl Family {
             Family::Resident => "Memory of the process that is in RAM.",
             Family::Clients =>
                 "Clients that are connected: those that speak lines, and sockets of browsers.",
+            Family::Visits => "Visits of clients: each is one client's presence on one pad.",
             Family::PageRequests => "Requests of browsers that are read or answered now.",
             Family::PageConnections =>
                 "Connections at the address of the page; each has one request.",

@@ -19,7 +19,7 @@ pub struct Histogram {
 }
 
 /// How often something took at most so long.
-#[derive(Clone, Copy, Debug)]
+#[derive(Clone, Copy)]
 pub struct Bucket {
     /// The bound in seconds, as a text; `+Inf` where there is none.
     pub bound: &'static str,
@@ -28,7 +28,7 @@ pub struct Bucket {
 }
 
 /// What a histogram had counted when it was looked at.
-#[derive(Debug, Drop)]
+#[derive(Drop)]
 pub struct TimeCounts {
     /// With ascending bounds. Each bucket counts those before it too, so the last one counts all.
     pub buckets: Vec<Bucket>,

@@ -5,7 +5,7 @@ ghost use Rattle.server_counts.specs.Kept.{kept_text, whole_text, word_of};
 use std::alloc::{AllocError, Global};
 
 /// What is told of a standby.
-#[derive(Clone, Copy, Debug)]
+#[derive(Clone, Copy)]
 pub struct KeptStandby<'a> {
     /// What `--confirm` was given, or `never`.
     pub confirm: &'a str,

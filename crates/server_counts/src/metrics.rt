@@ -9,7 +9,7 @@ use crate::samples::{put_build, put_codes, put_one, put_times};
 use std::alloc::{AllocError, Global};
 
 /// Which build of the program this is.
-#[derive(Clone, Copy, Debug)]
+#[derive(Clone, Copy)]
 pub struct Build<'a> {
     /// Its version, such as `0.1.0`.
     pub version: &'a str,
@@ -18,10 +18,12 @@ pub struct Build<'a> {
 }
 
 /// Numbers of the clients, and of what they asked for.
-#[derive(Debug, Drop)]
+#[derive(Drop)]
 pub struct ClientNumbers {
     /// Connected now.
     pub clients: u64,
+    /// Visits that these have.
+    pub visits: u64,
     /// Read or answered now.
     pub page_requests: u64,
     /// Connections that browsers opened, since the start.
@@ -36,7 +38,7 @@ pub struct ClientNumbers {
 }
 
 /// Numbers of a store, since the start.
-#[derive(Debug, Drop)]
+#[derive(Drop)]
 pub struct StoreNumbers {
     pub notes: u64,
     pub synced: u64,
@@ -49,7 +51,7 @@ pub struct StoreNumbers {
 }
 
 /// Numbers of a standby.
-#[derive(Clone, Copy, Debug)]
+#[derive(Clone, Copy)]
 pub struct StandbyNumbers {
     /// 1 while replies wait until the standby has what they reveal, otherwise 0.
     pub confirms: u64,
@@ -64,7 +66,7 @@ pub struct StandbyNumbers {
 }
 
 /// What is told of a server: a snapshot of its counts.
-#[derive(Debug, Drop)]
+#[derive(Drop)]
 pub struct Numbers<'a> {
     pub build: Build<'a>,
     pub uptime_seconds: u64,
@@ -137,6 +139,7 @@ fn put_connected(text: &mut String, numbers: &ClientNumbers) -> Result<(), Alloc
     ensures { OnOk result (string_bytes text.new ≡ string_bytes text.old ++ connected_text numbers.now) }
 {
     put_one(text, Family::Clients, numbers.clients)?;
+    put_one(text, Family::Visits, numbers.visits)?;
     put_one(text, Family::PageRequests, numbers.page_requests)?;
     put_one(text, Family::PageConnections, numbers.page_connections)
 }

@@ -18,7 +18,7 @@ pub struct RefusalCounts {
 }
 
 /// How often a refusal was answered.
-#[derive(Clone, Copy, Debug)]
+#[derive(Clone, Copy)]
 pub struct CodeCount {
     pub code: u16,
     pub count: u64,

@@ -3,7 +3,7 @@ ghost use Rattle.std.specs.Prelude.{◌≡◌, option_map};
 ghost use Rattle.server_counts.specs.Requests.{asked_by, page_of, unversioned};
 
 /// What can be asked for.
-#[derive(Clone, Copy, Debug, PartialEq, Eq)]
+#[derive(Clone, Copy)]
 pub enum StatusPage {
     /// `/healthz`: whether the server serves.
     Health,
@@ -14,7 +14,7 @@ pub enum StatusPage {
 }
 
 /// What a request asks for.
-#[derive(Clone, Copy, Debug, PartialEq, Eq)]
+#[derive(Clone, Copy)]
 pub enum StatusRequest {
     /// `GET` or `HEAD` of a page.
     Page { page: StatusPage, is_head: bool },

@@ -1,20 +1,20 @@
 -- The lines and the words of an accounts file.
-use Rattle.std.proofs.Common.{◌≡◌, ℕ, zero, suc, ◌+◌, ◌<◌, Bool, true, false, ◌&&◌, List, [], ◌∷◌, length}
+use Rattle.std.proofs.Common.{◌≡◌, ℕ, zero, suc, ◌+◌, ◌<◌, Bool, true, false, ◌&&◌, List, [], ◌∷◌, ◌++◌, length}
 use Rattle.std.proofs.Common.{take, drop, Option, None, Some, true≢false, refl, sym, ap, ◌∙◌, arith, eqb, ltb, leb}
 use Rattle.std.specs.List.{list_all, position, position_or_len, slice_split, onto_first}
 use Rattle.std.specs.Borrow.{Bor}
 use Rattle.std.specs.Option.{is_some}
-use Rattle.std.specs.Str.{IsAscii, IsUtf8}
+use Rattle.std.specs.Str.{IsAscii, IsUtf8, is_utf8}
 use Rattle.std.specs.Str.Lines.{lines_of_parts, strip_carriage_return}
-use Rattle.std.proofs.lemmas.Bool.{ltb-true, ltb-false, leb-true, ne_eqb, and_parts, and_from, and_left, and_right}
+use Rattle.std.proofs.lemmas.Bool.{ltb-true, ltb-false, leb-true, eqb-true, ne_eqb, and_parts, and_from, and_left, and_right}
 use Rattle.std.proofs.lemmas.Bool.{cond-true, cond-false}
 use Rattle.std.proofs.lemmas.Option.{same_Some}
 use Rattle.std.proofs.lemmas.List.Splits.{slice_split_first, slice_split_none}
 use Rattle.std.proofs.lemmas.List.Sums.{fails_before_first}
-use Rattle.std.proofs.lemmas.Str.{IsUtf8-from_ascii}
+use Rattle.std.proofs.lemmas.Str.{IsUtf8-from_ascii, is_utf8-from_IsUtf8}
 use Rattle.pad_model.specs.Checked.{is_name, is_name_byte, is_within}
 use Rattle.pad_model.proofs.Newer.{split}
-use Rattle.sessions.specs.AccountsFile.{is_shown, is_word, words}
+use Rattle.sessions.specs.AccountsFile.{is_hash_digit, is_shown, is_word, words, joined, person_said, said_of_person}
 use Rattle.sessions.specs.Said.{words_behind}
 
 -- the first part of a list that is cut ends where the test first holds
@@ -59,6 +59,19 @@ pub word_is_text : (most : ℕ) (w : List ℕ) → is_word most w ≡ true → I
 word_is_text most w h = IsUtf8-from_ascii w
     (shown_is_ascii w (and_parts (is_within (length w) most) (list_all is_shown w) h).1)
 
+-- a hash is text
+hash_digit_is_shown : (b : ℕ) → is_hash_digit b ≡ true → is_shown b ≡ true
+hash_digit_is_shown b h = grind arith
+
+hash_is_shown : (w : List ℕ) → list_all is_hash_digit w ≡ true → list_all is_shown w ≡ true
+hash_is_shown [] h = refl
+hash_is_shown (b ∷ bs) h =
+    let parts = and_parts (is_hash_digit b) (list_all is_hash_digit bs) h in
+    and_from _ _ (hash_digit_is_shown b parts.0) (hash_is_shown bs parts.1)
+
+pub hash_is_text : (w : List ℕ) → list_all is_hash_digit w ≡ true → is_utf8 w ≡ true
+hash_is_text w h = is_utf8-from_IsUtf8 w (IsUtf8-from_ascii w (shown_is_ascii w (hash_is_shown w h)))
+
 -- a name is a word
 byte_is_shown : (b : ℕ) → is_name_byte b ≡ true → is_shown b ≡ true
 byte_is_shown b h = grind arith
@@ -99,3 +112,29 @@ of_more_words P each (Some text) some = of_words P each text.now
 -- the words after a place, if there are any
 pub words_at : (rest : Option (Bor (List ℕ))) (text : Bor (List ℕ)) → rest ≡ Some text → words_behind rest ≡ words text.now
 words_at rest text is = ap words_behind is
+
+-- words that are joined are the text that they were cut from
+joined_behind : (first text : List ℕ) → joined (first ∷ words text) ≡ first ++ 32 ∷ joined (words text)
+joined_behind first text = of_words (λ parts. joined (first ∷ parts) ≡ first ++ 32 ∷ joined parts) (λ word rest. refl) text
+
+joined_onto : (b : ℕ) (text : List ℕ) → joined (onto_first b (words text)) ≡ b ∷ joined (words text)
+joined_onto b text = of_words (λ parts. joined (onto_first b parts) ≡ b ∷ joined parts) cases text
+  where
+    cases : (word : List ℕ) (rest : List (List ℕ)) → joined (onto_first b (word ∷ rest)) ≡ b ∷ joined (word ∷ rest)
+    cases word [] = refl
+    cases word (next ∷ rest) = refl
+
+pub joined_words : (text : List ℕ) → joined (words text) ≡ text
+joined_words [] = refl
+joined_words (b ∷ bs) =
+    split (eqb b 32)
+    (λ t.
+    ap joined (cond-true _ _ _ t) ∙ joined_behind [] bs
+    ∙ ap (λ (rest : List ℕ). 32 ∷ rest) (joined_words bs) ∙ ap (λ c. c ∷ bs) (sym (eqb-true b 32 t)))
+    (λ f. ap joined (cond-false _ _ _ f) ∙ joined_onto b bs ∙ ap (λ (rest : List ℕ). b ∷ rest) (joined_words bs))
+
+-- what follows a person's ID is its display name
+pub person_words : (name id text : List ℕ) → person_said (name ∷ id ∷ words text) ≡ said_of_person name id text
+person_words name id text =
+    of_words (λ parts. person_said (name ∷ id ∷ parts) ≡ said_of_person name id (joined parts)) (λ word rest. refl) text
+    ∙ ap (said_of_person name id) (joined_words text)

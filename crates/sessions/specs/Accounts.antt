@@ -1,9 +1,11 @@
 -- Who may log in.
-use Rattle.std.specs.Prelude.{◌≡◌, ℕ, ◌+◌, Bool, ◌&&◌, ◌==◌, nat_le, if◌then◌else◌, Option, Some, None, Result}
+use Rattle.std.specs.Prelude.{◌≡◌, ℕ, ◌+◌, Bool, false, ◌&&◌, ◌==◌, nat_le, if◌then◌else◌, Option, Some, None, Result}
 use Rattle.std.specs.Prelude.{Ok, Err, List, [], ◌∷◌, ◌++◌, length, bytes_eq}
 use Rattle.std.specs.List.{list_any}
 use Rattle.std.specs.Str.Lines.{lines}
-use Rattle.sessions.specs.AccountsFile.{Said, nothing, an_author, a_peer, meaning}
+use Rattle.sessions.specs.AccountsFile.{Said, nothing, an_author, a_hash, a_peer, a_person, meaning}
+use Rattle.sessions.specs.People.{People, no_people, with_person}
+use Rattle.sessions.specs.Secrets.{opens}
 use Rattle.sessions.specs.declared.accounts.TheConstants.{MAX_ACCOUNTS}
 use Rattle.sessions.specs.declared.accounts.AuthorAccount.{AuthorAccount}
 use Rattle.sessions.specs.declared.accounts.Peer.{Peer}
@@ -11,15 +13,19 @@ use Rattle.sessions.specs.declared.accounts.AccountsError.{AccountsError}
 use Rattle.sessions.specs.declared.accounts.AccountsError.TheVariants.{BadLine, Memory}
 use Rattle.sessions.specs.declared.mistake.Mistake.{Mistake}
 use Rattle.sessions.specs.declared.mistake.Mistake.TheVariants.{NameTwice, NumberTwice, TooManyAccounts}
+use Rattle.sessions.specs.declared.secret.Secret.{Secret}
+use Rattle.sessions.specs.declared.secret.Secret.TheVariants.{Token, Hash}
 
--- the accounts of authors and of peers, in the order of their lines
+-- the accounts of authors and of peers, in the order of their lines, the persons, and whether any user of a proxy is an author
 pub record Accounts : Type 0 where
   pub authors : List AuthorAccount
   pub peers : List Peer
+  pub people : People
+  pub any_user : Bool
 
--- nobody may log in
+-- nobody may log in, and there are no persons
 abbrev pub no_accounts : Accounts
-no_accounts = record { authors = []; peers = [] }
+no_accounts = record { authors = []; peers = []; people = no_people; any_user = false }
 
 -- whether an account has a name
 abbrev pub has_name : List ℕ → AuthorAccount → Bool
@@ -33,13 +39,23 @@ has_number number p = p.number == number
 abbrev pub is_full : Accounts → Bool
 is_full a = nat_le MAX_ACCOUNTS (length a.authors + length a.peers)
 
+-- the accounts with one more author, or what is wrong with it: it has to be new, and within the limit
+abbrev pub with_author : Accounts → List ℕ → Secret → Result Accounts Mistake
+with_author a name secret =
+    if is_full a then Err TooManyAccounts
+    else if list_any (has_name name) a.authors then Err NameTwice
+    else Ok (record a { authors = a.authors ++ record { name = name; secret = secret } ∷ [] })
+
+-- the accounts with these persons, or what is wrong with the last of them
+abbrev pub with_people : Accounts → Result People Mistake → Result Accounts Mistake
+with_people a (Ok people) = Ok (record a { people = people })
+with_people a (Err mistake) = Err mistake
+
 -- the accounts with those of one more line, or what is wrong with it: an account has to be new, and within the limit
 abbrev pub with_line : Accounts → Result Said Mistake → Result Accounts Mistake
 with_line a (Ok nothing) = Ok a
-with_line a (Ok (an_author name token)) =
-    if is_full a then Err TooManyAccounts
-    else if list_any (has_name name) a.authors then Err NameTwice
-    else Ok (record a { authors = a.authors ++ record { name = name; token = token } ∷ [] })
+with_line a (Ok (an_author name token)) = with_author a name (Token token)
+with_line a (Ok (a_hash name hash)) = with_author a name (Hash hash)
 with_line a (Ok (a_peer number token address)) =
     if is_full a then Err TooManyAccounts
     else if list_any (has_number number) a.peers then Err NumberTwice
@@ -47,6 +63,8 @@ with_line a (Ok (a_peer number token address)) =
       peers = a.peers
           ++ record { number = number; token = token; address = address } ∷ [];
     })
+with_line a (Ok (a_person name id display)) =
+    with_people a (with_person name id display a.people)
 with_line a (Err mistake) = Err mistake
 
 -- the outcome of the lines after one, or the error of that line with its number
@@ -71,14 +89,14 @@ abbrev pub Tells : List ℕ → AccountsError → Type 0
 Tells bytes (BadLine line mistake) = accounts_of bytes ≡ Err (BadLine line mistake)
 Tells bytes Memory = Unit {0}
 
--- the outcome of a line: the new accounts, or its mistake
-abbrev pub outcome : Option Mistake → Accounts → Result Accounts Mistake
-outcome None accounts = Ok accounts
-outcome (Some mistake) accounts = Err mistake
+-- the outcome of a line: what there is after it, or its mistake
+abbrev pub outcome : {A : Type 0} → Option Mistake → A → Result A Mistake
+outcome None after = Ok after
+outcome (Some mistake) after = Err mistake
 
--- whether an author has this token
+-- whether an author has this token, or its hash
 abbrev pub is_author : List ℕ → List ℕ → Accounts → Bool
-is_author name token a = list_any (λ account. has_name name account && bytes_eq account.token token)
+is_author name token a = list_any (λ account. has_name name account && opens token account.secret)
     a.authors
 
 -- whether a peer has this token

@@ -1,13 +1,17 @@
 //! Who may log in.
-ghost use Rattle.std.specs.Prelude.{◌≡◌, Ok, IfOk, IfErr};
+ghost use Rattle.std.specs.Prelude.{◌≡◌, Ok, IfOk, IfErr, option_copied, option_map};
 ghost use Rattle.std.specs.List.{list_any};
-ghost use Rattle.sessions.specs.Accounts.{no_accounts, has_name, has_number, is_full, with_line, outcome, accounts_of, Tells, is_author, is_peer};
-ghost use Rattle.sessions.specs.AccountsFile.{an_author, a_peer};
+ghost use Rattle.sessions.specs.Accounts.{has_name, has_number, is_full, with_author, with_line, with_people, outcome};
+ghost use Rattle.sessions.specs.Accounts.{accounts_of, Tells, is_author, is_peer};
+ghost use Rattle.sessions.specs.AccountsFile.{a_peer};
+ghost use Rattle.sessions.specs.People.{author_of, display_of, with_person};
 ghost use Rattle.sessions.specs.Said.{said};
 ghost use Rattle.sessions.specs.declared.accounts.AccountsError.TheVariants.{Memory};
 
 use crate::line::{AccountLine, cut_line, read_line};
 use crate::mistake::Mistake;
+use crate::people::People;
+use crate::secret::Secret;
 use crate::word::Word;
 use pad_model::Name;
 use std::alloc::{AllocError, AllocFailed, Global};
@@ -38,7 +42,7 @@ impl From<AllocError> for AccountsError {
 #[derive(Drop)]
 pub struct AuthorAccount {
     name: Name,
-    token: Word,
+    secret: Secret,
 }
 
 /// A peer: its replica number, its token for both directions, and the address at which it listens.
@@ -49,11 +53,13 @@ pub struct Peer {
     pub address: Word,
 }
 
-/// The authors and peers that may log in.
+/// The authors and peers that may log in, the persons, and whether any user of a proxy is an author.
 #[derive(Drop)]
 pub struct Accounts {
     authors: Vec<AuthorAccount>,
     peers: Vec<Peer>,
+    people: People,
+    any_user: bool,
 }
 
 impl Model for Accounts {
@@ -61,11 +67,16 @@ impl Model for Accounts {
 
     ghost Value = { Accounts };
 
-    ghost view = { λ a. record { authors = a.authors.items; peers = a.peers.items } };
+    ghost view = { λ a. record {
+      authors = a.authors.items;
+      peers = a.peers.items;
+      people = a.people;
+      any_user = a.any_user;
+    } };
 }
 
 impl Accounts {
-    /// Reads a whole accounts file.
+    /// Reads a whole accounts file. By the file alone, a user of a proxy who is no person is no author.
     pub fn read(alloc: Global, bytes: &[u8]) -> Result<Accounts, AccountsError>
         ensures ok { IfOk result (λ accounts. accounts_of bytes.now ≡ Ok accounts) }
         ensures refused { IfErr result (Tells bytes.now) }
@@ -73,6 +84,8 @@ impl Accounts {
         let mut accounts = Accounts {
             authors: Vec::new(alloc),
             peers: Vec::new(alloc),
+            people: People::new(alloc),
+            any_user: false,
         };
         let mut rest = bytes;
         let mut line = 0;
@@ -91,13 +104,25 @@ impl Accounts {
         Ok(accounts)
     }
 
-    /// Whether an author has this token.
+    /// These accounts, where any user of a proxy is an author, or only those are who are persons.
+    pub fn with_any_user(self, any_user: bool) -> Accounts
+        ensures { result ≡ record self { any_user = any_user } }
+    {
+        Accounts { any_user, ..self }
+    }
+
+    /// Whether any user of a proxy is an author.
+    pub(crate) fn takes_any_user(&self) -> bool
+        ensures { result ≡ self.now.any_user }
+    {
+        self.any_user
+    }
+
+    /// Whether an author has this token, or its hash.
     pub fn author(&self, name: &str, token: &str) -> bool
         ensures { result ≡ is_author name.now token.now self.now }
     {
-        self.authors
-            .iter()
-            .any(|account| account.name.is(name) && account.token.is(token))
+        self.authors.iter().any(|account| account.name.is(name) && account.secret.opens(token))
     }
 
     /// Whether the peer with this number has this token. No peer has a number above `MAX_REPLICA`.
@@ -114,19 +139,41 @@ impl Accounts {
         self.peers.as_slice()
     }
 
-    /// Adds a line's account, or returns why it cannot be added.
+    /// The name of the person with this ID, by which a proxy knows it.
+    pub fn author_of(&self, id: &[u8]) -> Option<&Name>
+        ensures { option_copied result ≡ author_of id.now self.now.people }
+    {
+        self.people.author_of(id)
+    }
+
+    /// The display name of the person with this name.
+    pub fn display_of(&self, name: &Name) -> Option<&str>
+        ensures { option_map (λ display. display.now) result ≡ display_of name.now self.now.people }
+    {
+        self.people.display_of(name)
+    }
+
+    /// Adds what a line says, or returns why it cannot be added.
     fn add(&mut self, alloc: Global, line: AccountLine<'_>) -> Result<Option<Mistake>, AllocError>
         ensures { IfOk result (λ refused. with_line self.old (Ok (said line.entry))
             ≡ outcome refused self.new) }
     {
         match line {
             AccountLine::Skip => Ok(None),
-            AccountLine::Author { name, token } => self.add_author(alloc, name, token),
+            AccountLine::Author { name, token } => {
+                let token = Word::from_str(alloc, token)?;
+                self.add_author(alloc, name, Secret::Token(token))
+            }
+            AccountLine::Hash { name, hash } => {
+                let hash = Word::from_str(alloc, hash)?;
+                self.add_author(alloc, name, Secret::Hash(hash))
+            }
             AccountLine::Peer {
                 number,
                 token,
                 address,
             } => self.add_peer(alloc, number, token, address),
+            AccountLine::Person { name, id, display } => self.add_person(alloc, name, id, display),
         }
     }
 
@@ -134,9 +181,9 @@ impl Accounts {
         &mut self,
         alloc: Global,
         name: &str,
-        token: &str,
+        secret: Secret,
     ) -> Result<Option<Mistake>, AllocError>
-        ensures { IfOk result (λ refused. with_line self.old (Ok (an_author name.now token.now))
+        ensures { IfOk result (λ refused. with_author self.old name.now secret
             ≡ outcome refused self.new) }
     {
         if self.is_full() {
@@ -147,7 +194,7 @@ impl Accounts {
         }
         let account = AuthorAccount {
             name: Name::from_str(alloc, name)?,
-            token: Word::from_str(alloc, token)?,
+            secret,
         };
         self.authors.push(account)?;
         Ok(None)
@@ -178,13 +225,26 @@ impl Accounts {
         Ok(None)
     }
 
+    fn add_person(
+        &mut self,
+        alloc: Global,
+        name: &str,
+        id: &[u8],
+        display: &str,
+    ) -> Result<Option<Mistake>, AllocError>
+        ensures { IfOk result (λ refused. with_people self.old
+            (with_person name.now id.now display.now self.old.people) ≡ outcome refused self.new) }
+    {
+        self.people.add(alloc, name, id, display)
+    }
+
     fn is_full(&self) -> bool
         ensures { result ≡ is_full self.now }
     {
         self.authors.len() as u64 + self.peers.len() as u64 >= MAX_ACCOUNTS
     }
 
-    fn has_author(&self, name: &str) -> bool
+    pub(crate) fn has_author(&self, name: &str) -> bool
         ensures { result ≡ list_any (has_name name.now) self.now.authors }
     {
         self.authors.iter().any(|account| account.name.is(name))

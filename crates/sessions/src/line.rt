@@ -1,11 +1,14 @@
 //! The lines of an accounts file.
-ghost use Rattle.std.specs.Prelude.{◌≡◌, ◌<◌, ◌≤◌, ◌∷◌, true, false, ◌==◌, min, length, MatchOption, MatchResult};
+ghost use Rattle.std.specs.Prelude.{◌≡◌, ◌<◌, ◌∷◌, true, false, ◌==◌, nat_le, min, length, MatchOption, MatchResult};
 ghost use Rattle.std.specs.List.{list_all, list_any, position};
 ghost use Rattle.std.specs.Str.Lines.{lines, strip_carriage_return};
 ghost use Rattle.pad_model.specs.Checked.{is_name};
+ghost use Rattle.std.specs.Str.{chars, is_utf8};
 ghost use Rattle.sessions.specs.AccountsFile.{words, is_empty, is_shown, is_word, is_address, are_digits, is_number, decimal};
+ghost use Rattle.sessions.specs.AccountsFile.{is_hash, is_hash_digit, is_plain, is_display};
 ghost use Rattle.sessions.specs.AccountsFile.{name_mistake, number_mistake, token_mistake, address_mistake};
-ghost use Rattle.sessions.specs.AccountsFile.{author_said, peer_said, said_by, meaning};
+ghost use Rattle.sessions.specs.AccountsFile.{hash_mistake, id_mistake, display_mistake};
+ghost use Rattle.sessions.specs.AccountsFile.{author_said, hash_said, peer_said, person_said, said_of_person, said_by, meaning};
 ghost use Rattle.sessions.specs.Said.{said_or_mistake, words_behind};
 ghost use Rattle.sessions.specs.declared.line.TheConstants.{MAX_TOKEN};
 
@@ -18,6 +21,12 @@ pub const MAX_TOKEN: u64 = 64;
 /// The most bytes of an address.
 pub const MAX_ADDRESS: u64 = 255;
 
+/// The most bytes of an ID.
+pub const MAX_ID: u64 = 255;
+
+/// The most characters of a display name.
+pub const MAX_DISPLAY: u64 = 60;
+
 /// What a line says.
 pub enum AccountLine<'a> {
     Skip,
@@ -25,10 +34,19 @@ pub enum AccountLine<'a> {
         name: &'a str,
         token: &'a str,
     },
+    Hash {
+        name: &'a str,
+        hash: &'a str,
+    },
     Peer {
         number: u16,
         token: &'a str,
         address: &'a str,
+    },
+    Person {
+        name: &'a str,
+        id: &'a [u8],
+        display: &'a str,
     },
 }
 
@@ -99,8 +117,12 @@ fn read_words(line: &[u8]) -> Result<AccountLine<'_>, Mistake>
     let (kind, rest) = cut_word(line);
     if kind == b"author".as_slice() {
         author_line(rest)
+    } else if kind == b"hash".as_slice() {
+        hash_line(rest)
     } else if kind == b"peer".as_slice() {
         peer_line(rest)
+    } else if kind == b"person".as_slice() {
+        person_line(rest)
     } else {
         Err(Mistake::UnknownWord)
     }
@@ -131,6 +153,21 @@ fn author_line(rest: Option<&[u8]>) -> Result<AccountLine<'_>, Mistake>
     })
 }
 
+/// Reads `hash NAME SHA256`, from what follows its first word.
+fn hash_line(rest: Option<&[u8]>) -> Result<AccountLine<'_>, Mistake>
+    ensures { said_or_mistake result ≡ hash_said (words_behind rest.entry) }
+{
+    let (name, rest) = cut_word(rest.ok_or(Mistake::NoHashName)?);
+    let (hash, rest) = cut_word(rest.ok_or(Mistake::NoHash)?);
+    if rest.is_some() {
+        return Err(Mistake::ExtraWord);
+    }
+    Ok(AccountLine::Hash {
+        name: name_text(name)?,
+        hash: hash_text(hash)?,
+    })
+}
+
 /// Reads `peer NUMBER TOKEN HOST:PORT`, from what follows its first word.
 fn peer_line(rest: Option<&[u8]>) -> Result<AccountLine<'_>, Mistake>
     ensures { said_or_mistake result ≡ peer_said (words_behind rest.entry) }
@@ -148,7 +185,32 @@ fn peer_line(rest: Option<&[u8]>) -> Result<AccountLine<'_>, Mistake>
     })
 }
 
-fn name_text(word: &[u8]) -> Result<&str, Mistake>
+/// Reads `person NAME ID DISPLAY NAME`, from what follows its first word. The display name is the rest of the line.
+fn person_line(rest: Option<&[u8]>) -> Result<AccountLine<'_>, Mistake>
+    ensures { said_or_mistake result ≡ person_said (words_behind rest.entry) }
+{
+    let (name, rest) = cut_word(rest.ok_or(Mistake::NoPerson)?);
+    let (id, rest) = cut_word(rest.ok_or(Mistake::NoId)?);
+    let display = rest.ok_or(Mistake::NoDisplay)?;
+    person_of(name, id, display)
+}
+
+/// What the name, the ID and the display name of a person say.
+fn person_of<'a>(
+    name: &'a [u8],
+    id: &'a [u8],
+    display: &'a [u8],
+) -> Result<AccountLine<'a>, Mistake>
+    ensures { said_or_mistake result ≡ said_of_person name.now id.now display.now }
+{
+    Ok(AccountLine::Person {
+        name: name_text(name)?,
+        id: id_bytes(id)?,
+        display: display_text(display)?,
+    })
+}
+
+pub(crate) fn name_text(word: &[u8]) -> Result<&str, Mistake>
     ensures { MatchResult result (λ name. (name.now ≡ word.now) × (is_name word.now ≡ true))
         (λ mistake. (is_name word.now ≡ false) × (mistake ≡ name_mistake word.now)) }
 {
@@ -169,6 +231,76 @@ fn token_text(word: &[u8]) -> Result<&str, Mistake>
         None if word.len() as u64 <= MAX_TOKEN => Err(Mistake::TokenByte),
         None => Err(Mistake::LongToken),
     }
+}
+
+fn hash_text(word: &[u8]) -> Result<&str, Mistake>
+    ensures { MatchResult result (λ hash. (hash.now ≡ word.now) × (is_hash word.now ≡ true))
+        (λ mistake. (is_hash word.now ≡ false) × (mistake ≡ hash_mistake word.now)) }
+{
+    if word.len() != 64 {
+        return Err(Mistake::HashLength);
+    }
+    if !has_hash_digits(word) {
+        return Err(Mistake::HashDigit);
+    }
+    utf8_text(word).ok_or(Mistake::HashDigit)
+}
+
+fn has_hash_digits(word: &[u8]) -> bool
+    ensures { result ≡ list_all is_hash_digit word.now }
+{
+    word.iter().all(|byte| (b'0' <= *byte && *byte <= b'9') || (b'a' <= *byte && *byte <= b'f'))
+}
+
+fn id_bytes(word: &[u8]) -> Result<&[u8], Mistake>
+    ensures { MatchResult result (λ id. (id.now ≡ word.now) × (is_word MAX_ID word.now ≡ true))
+        (λ mistake. (is_word MAX_ID word.now ≡ false) × (mistake ≡ id_mistake word.now)) }
+{
+    if is_word(MAX_ID, word) {
+        Ok(word)
+    } else if word.len() as u64 <= MAX_ID {
+        Err(Mistake::IdByte)
+    } else {
+        Err(Mistake::LongId)
+    }
+}
+
+pub(crate) fn display_text(bytes: &[u8]) -> Result<&str, Mistake>
+    ensures { MatchResult result (λ text. (text.now ≡ bytes.now) × (is_display bytes.now ≡ true))
+        (λ mistake. (is_display bytes.now ≡ false) × (mistake ≡ display_mistake bytes.now)) }
+{
+    let Some(text) = utf8_text(bytes) else {
+        return Err(Mistake::DisplayBytes);
+    };
+    if !is_plain(text) {
+        return Err(Mistake::DisplayControl);
+    }
+    if !is_short(text) {
+        return Err(Mistake::LongDisplay);
+    }
+    Ok(text)
+}
+
+fn utf8_text(bytes: &[u8]) -> Option<&str>
+    ensures { MatchOption result (is_utf8 bytes.now ≡ false)
+        (λ text. (text.now ≡ bytes.now) × (is_utf8 bytes.now ≡ true)) }
+{
+    match str::from_utf8(bytes) {
+        Ok(text) => Some(text),
+        Err(_) => None,
+    }
+}
+
+fn is_plain(text: &str) -> bool
+    ensures { result ≡ is_plain text.now }
+{
+    text.chars().all(|character| !character.is_control())
+}
+
+fn is_short(text: &str) -> bool
+    ensures { result ≡ nat_le (length (chars text.now)) MAX_DISPLAY }
+{
+    text.chars().count() as u64 <= MAX_DISPLAY
 }
 
 fn address_text(word: &[u8]) -> Result<&str, Mistake>

@@ -1,5 +1,5 @@
 //! A session: who it belongs to, and the pads that it has joined.
-ghost use Rattle.std.specs.Prelude.{◌≡◌, ◌≢◌, ◌↔◌, IsTrue, ◌+◌, ◌≤◌, [], ◌∷◌, ◌++◌, not, drop, filter, slice_get, option_copied, IfErr, IsOk, OnOk};
+ghost use Rattle.std.specs.Prelude.{◌≡◌, ◌≢◌, ◌↔◌, IsTrue, ◌+◌, ◌≤◌, [], ◌∷◌, ◌++◌, not, drop, filter, length, slice_get, option_copied, IfErr, IsOk, OnOk};
 ghost use Rattle.std.specs.List.{find};
 ghost use Rattle.pad_model.specs.declared.refusal.Refusal.{Refusal};
 ghost use Rattle.pad_model.specs.declared.who.Who.{Who};
@@ -67,6 +67,13 @@ impl Session {
         ensures { option_copied result ≡ find (is_of pad.now) self.now.rooms }
     {
         self.rooms.iter().find(|room| room.pad.is(pad))
+    }
+
+    /// How many rooms it is in.
+    pub fn room_count(&self) -> usize
+        ensures { result ≡ length self.now.rooms }
+    {
+        self.rooms.len()
     }
 
     /// Whether it is in a room.

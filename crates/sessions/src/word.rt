@@ -4,7 +4,7 @@ ghost use Rattle.sessions.specs.Tokens.{differences};
 use std::alloc::{AllocError, Global};
 use std::marker::Model;
 
-/// A token or an address, which contracts see as its bytes.
+/// A token, the hash of one, an address or a display name, which contracts see as its bytes.
 #[derive(Debug, Drop)]
 pub struct Word {
     text: String,
@@ -49,7 +49,14 @@ impl Word {
     pub fn is(&self, text: &str) -> bool
         ensures { result ≡ bytes_eq self.now text.now }
     {
-        are_same(self.as_str().as_bytes(), text.as_bytes())
+        self.is_bytes(text.as_bytes())
+    }
+
+    /// Whether this is the word with exactly these bytes, compared in the same way.
+    pub fn is_bytes(&self, bytes: &[u8]) -> bool
+        ensures { result ≡ bytes_eq self.now bytes.now }
+    {
+        are_same(self.as_str().as_bytes(), bytes)
     }
 }
 

@@ -40,7 +40,8 @@ module _ (pad : Machine) (base : ℕ) (ts : List Tally) (calls most room : ℕ) 
       after ≡ (step name w (Some visit) act.Leave pad).1 → t ≡ counted 0 None seat.tally →
       IsKept after.log base (slice_set ts seat.number t) (calls + 1) most room
   departs name w visit after t is told =
-      let grown = step_grows name w (Some visit) act.Leave pad.owned pad.replica pad.log pad.held pad.presence in
+      let grown = step_grows name w (Some visit) act.Leave pad.owned pad.replica pad.log pad.held pad.presence
+      pad.clock pad.times in
       subst (λ (m : Machine). IsKept m.log base (slice_set ts seat.number t) (calls + 1) most room) (sym is)
       (subst (λ (t : Tally). IsKept (step name w (Some visit) act.Leave pad).1.log base (slice_set ts seat.number t)
       (calls + 1) most room) (ap (λ n. counted n None seat.tally) grown.2 ∙ sym told)
@@ -61,7 +62,7 @@ module _ (pad : Machine) (base : ℕ) (ts : List Tally) (calls most room : ℕ) 
       Fits (seat_after 0 None seat) after
   fits_left who gone after is fits delivered sound =
       let grown = step_grows gone.pad who (Some gone.visit) act.Leave pad.owned pad.replica pad.log pad.held
-      pad.presence in
+      pad.presence pad.clock pad.times in
       let log_is : after.log ≡ pad.log ++ grown.0 = ap (λ (m : Machine). m.log) is ∙ grown.1 in (
         delivered,
         subst (λ log. Stands log seat.tally.last) (sym log_is) (stands_on pad.log grown.0 seat.tally.last fits.1),

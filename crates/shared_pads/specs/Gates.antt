@@ -1,5 +1,5 @@
 -- What a gate is told, and what it lets pass.
-use Rattle.std.specs.Prelude.{◌≡◌, ℕ, ◌+◌, Bool, true, ⊤, drop, length, MatchResult}
+use Rattle.std.specs.Prelude.{◌≡◌, ◌+◌, Bool, true, ⊤, drop, length, MatchResult}
 use Rattle.pad_model.specs.declared.refusal.Refusal.TheVariants.{Memory}
 use Rattle.pad_core.specs.declared.request.Request.{Request}
 use Rattle.shared_pads.specs.LockedPad.{LockedPad}

@@ -8,7 +8,7 @@ use Rattle.pad_model.specs.declared.who.Who.{Who}
 use Rattle.sessions.specs.declared.session.Room.{Room}
 use Rattle.pad_core.specs.Delivered.{IsDelivered}
 use Rattle.pad_core.specs.Listing.{listing}
-use Rattle.pad_core.specs.Machine.{IsPad, Machine, name_of, step}
+use Rattle.pad_core.specs.Machine.{IsPad, Machine, name_of, step, tick}
 use Rattle.pad_core.specs.declared.act.Act.TheVariants.{Leave}
 use Rattle.pad_core.specs.declared.reply.Listed.{Listed}
 use Rattle.pad_core.specs.declared.request.Request.{Request}
@@ -84,6 +84,10 @@ Counts old seat who request rooms answer after new next =
     next.pad
     × (after ≡ seat_after more (edit_of request answer) seat)
     × (next ≡ kept_after next.pad more (edit_of request answer) seat old)
+
+-- what the lock protects once its pad was told the time
+abbrev pub ticked : ℕ → LockedPad → LockedPad
+ticked clock k = record k { pad = tick clock k.pad }
 
 -- a pad after the session of a visit has left it
 abbrev pub left : Who → Room → Machine → Machine

@@ -10,7 +10,7 @@ use pad_model::{Items, Op, Refusal, Sequence, Who};
 use std::alloc::Global;
 
 /// A request that was answered at a cell.
-#[derive(Clone, Copy, Debug)]
+#[derive(Clone, Copy)]
 pub struct Answered<'a> {
     pub cell: u32,
     pub who: &'a Who,
@@ -20,6 +20,8 @@ pub struct Answered<'a> {
     pub from: u64,
     /// The number of operations that it delivered.
     pub made: u64,
+    /// The time that these have, in milliseconds since 1970.
+    pub at: u64,
     /// These operations, in their order, or an error if memory ran out while they were read. A gate that reads
     /// none gets none.
     pub more: &'a Result<Items<Op>, Refusal>,
@@ -41,6 +43,11 @@ pub trait Gate {
     fn answered<S: Sequence>(&self, alloc: Global, answered: &Answered<'_>, pad: &LockedPad<S>)
         requires gained { IsGained (reads self.now) answered.now pad.now }
         ensures told { told self.now answered.now.cell answered.now.request.now answered.now.answer.now };
+
+    /// The time of day, in milliseconds since 1970. A gate without a clock says 0.
+    fn clock(&self) -> u64 {
+        0
+    }
 
     /// Whether it reads the operations that a request delivered. Otherwise it gets only their number.
     fn reads_operations(&self) -> bool
@@ -72,7 +79,7 @@ pub trait Gate {
 }
 
 /// A gate that does nothing.
-#[derive(Clone, Copy, Debug)]
+#[derive(Clone, Copy)]
 pub struct Open;
 
 impl Gate for Open {

@@ -5,7 +5,8 @@ ghost use Rattle.server_core.specs.Rooms.{IsAsked};
 ghost use Rattle.pad_core.specs.Listing.{listing};
 ghost use Rattle.pad_core.specs.Machine.{name_of};
 ghost use Rattle.pad_model.specs.Checked.{is_name};
-ghost use Rattle.shared_pads.specs.LockedPad.{AreAll, Called, CanBe, Counts, Departs, IsClosed, IsKnown, IsListing, IsOf, kept_after, left, next_seat, one_more, seat_after, unseated};
+ghost use Rattle.shared_pads.specs.LockedPad.{AreAll, Called, CanBe, Counts, Departs, IsClosed, IsKnown, IsListing, IsOf, kept_after, left, next_seat, one_more, seat_after, ticked, unseated};
+ghost use Rattle.pad_core.specs.Times.{time_now};
 ghost use Rattle.shared_pads.specs.Seats.{Stands, Tells};
 
 use crate::seat::{MAX_SEATS, Seat, Tally, edit_of};
@@ -188,6 +189,20 @@ impl<S: Sequence> LockedPad<S> {
     {
         let LockedPad { pad, .. } = self;
         pad
+    }
+
+    /// Tells the pad the time of day, in milliseconds since 1970.
+    pub fn tick(&mut self, clock: u64)
+        ensures { self.new ≡ ticked clock self.old }
+    {
+        self.pad.tick(clock);
+    }
+
+    /// The time that an operation gets if it is delivered now.
+    pub fn time_now(&self) -> u64
+        ensures { result ≡ time_now self.now.pad.clock self.now.pad.times }
+    {
+        self.pad.time_now()
     }
 
     /// The revision that the last operation made.

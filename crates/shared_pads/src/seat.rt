@@ -10,14 +10,14 @@ use pad_model::{OpName, Refusal};
 pub const MAX_SEATS: u32 = 96;
 
 /// An edit that was answered: its operation has this name, and made this revision.
-#[derive(Clone, Copy, Debug, PartialEq, Eq)]
+#[derive(Clone, Copy, PartialEq, Eq)]
 pub struct LastEdit {
     pub name: OpName,
     pub rev: u64,
 }
 
 /// What was counted of the calls of one seat.
-#[derive(Clone, Copy, Debug, PartialEq, Eq)]
+#[derive(Clone, Copy, PartialEq, Eq)]
 pub struct Tally {
     /// The calls that were made.
     pub calls: u64,
@@ -72,7 +72,7 @@ impl Tally {
 }
 
 /// A seat at a shared pad, which can't be copied. The pad keeps the same tally of it.
-#[derive(Debug, Drop)]
+#[derive(Drop)]
 pub struct Seat {
     pub(crate) cell: u32,
     pub(crate) number: u32,
@@ -106,7 +106,7 @@ fn last_after(edit: Option<LastEdit>, before: Option<LastEdit>) -> Option<LastEd
 }
 
 /// What an act does to the operations of a pad.
-#[derive(Clone, Copy, Debug, PartialEq, Eq)]
+#[derive(Clone, Copy)]
 pub enum Effect {
     /// It makes one.
     Makes,

@@ -91,7 +91,10 @@ impl<S: Sequence> SharedPad<S> {
             seat.new session.new.rooms }
         ensures told { G.told gate.now self.now.cell request.now result }
     {
+        let now = gate.clock();
         let mut kept = self.lock(rt);
+        kept.tick(now);
+        let at = kept.time_now();
         let before = kept.revision();
         let answer = kept.call(alloc, seat, session, request);
         let more = if gate.reads_operations() {
@@ -106,6 +109,7 @@ impl<S: Sequence> SharedPad<S> {
             answer: &answer,
             from: before,
             made: kept.revision().saturating_sub(before),
+            at,
             more: &more,
         };
         gate.answered(alloc, &answered, &*kept);

@@ -6,7 +6,7 @@ ghost use Rattle.shared_pads.specs.Seats as seats_spec;
 use crate::seat::Seat;
 
 /// The operations and the calls of seats.
-#[derive(Clone, Copy, Debug, PartialEq, Eq)]
+#[derive(Clone, Copy)]
 pub struct Sums {
     pub operations: u64,
     pub calls: u64,

@@ -8,7 +8,7 @@ use std::alloc::{AllocError, Global};
 use std::io;
 use std::sync::Wait;
 use std::time::{Clock, Duration};
-use store_files::KeptFiles;
+use store_files::SyncedFiles;
 use wire_lines::Fault;
 
 /// About how many bytes a round has at most.
@@ -56,8 +56,8 @@ impl From<AllocError> for Broken {
 
 /// How far the copies of all files are, over one connection.
 #[derive(Drop)]
-pub struct Rounds<'k> {
-    files: KeptFiles<'k>,
+pub struct Rounds<F> {
+    files: F,
     // How many bytes of the file at each cell are in its copy.
     copied: Vec<u64>,
     // Whether the file at each cell may have more.
@@ -67,18 +67,22 @@ pub struct Rounds<'k> {
     is_first: bool,
 }
 
-impl<'k> Rounds<'k> {
+impl<F: SyncedFiles> Rounds<F> {
     /// Compares the copies with the files here, whose beginnings they have to be.
     pub fn begin<C: Copies, R: Wait>(
         rt: &R,
         alloc: Global,
-        files: KeptFiles<'k>,
+        files: F,
         copies: &mut C,
-    ) -> Result<Rounds<'k>, Broken> {
+    ) -> Result<Rounds<F>, Broken>
+    where
+        F: Drop,
+    {
         let Some(mut places) = copies.begin(alloc)? else {
             return Err(Broken::Taken);
         };
         places.sort_by(|one, other| one.pad.as_str().cmp(other.pad.as_str()))?;
+        let cells = files.cells();
         let mut rounds = Rounds {
             files,
             copied: Vec::new(alloc),
@@ -86,10 +90,10 @@ impl<'k> Rounds<'k> {
             confirmed: 0,
             is_first: true,
         };
-        rounds.copied.resize(files.cells(), 0)?;
-        rounds.is_due.resize(files.cells(), true)?;
+        rounds.copied.resize(cells, 0)?;
+        rounds.is_due.resize(cells, true)?;
         let mut found = 0usize;
-        for cell in 0..files.cells() {
+        for cell in 0..cells {
             if rounds.compare(rt, alloc, cell, places.as_slice())? {
                 found = found.saturating_add(1);
             }

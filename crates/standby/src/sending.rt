@@ -80,7 +80,7 @@ impl SendingEnd {
 
 /// Sends what is synced of the files of a store to a standby, over one connection after the other, until the server ends.
 /// `own` is the number of this server, and `peer` the standby's line in the accounts file. A fault is logged with its
-/// cause, and not again until the cause changes or the standby has caught up.
+/// cause, and not again until a fault of another kind comes or the standby has caught up.
 pub fn send_copies<R>(rt: &R, files: KeptFiles<'_>, peer: &Peer, own: u16, end: &SendingEnd)
 where
     R: AllocGlobal + Net<Listener = TcpListener, Stream = TcpStream> + Clock + Wait + Eprint,
@@ -110,7 +110,7 @@ where
 }
 
 // What was logged last.
-#[derive(Clone, Copy, Debug, PartialEq, Eq)]
+#[derive(Clone, Copy, PartialEq, Eq)]
 enum LastTold {
     Nothing,
     Connected,

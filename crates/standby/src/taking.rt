@@ -28,13 +28,13 @@ const FIRST_READS: u32 = 5;
 const LARGEST_ROUND: u64 = 268_435_456;
 
 /// Why a standby refuses what is asked of it, beside the refusals that pads have.
-#[derive(Clone, Copy, Debug, PartialEq, Eq)]
+#[derive(Clone, Copy)]
 pub enum StandbyRefusal {
     /// 340: the stretch does not stand behind the copy of its file.
     OtherPast,
     /// 341: this server is a standby, and answers its main server alone.
     IsStandby,
-    /// 102, 323, 900 or 901.
+    /// Another refusal, with its own number: such as 102, 201, 303, 323, 900 or 901.
     Pads(Refusal),
 }
 
@@ -63,7 +63,7 @@ impl StandbyRefusal {
 }
 
 /// Why a conversation with a main server is over.
-#[derive(Debug, Drop)]
+#[derive(Drop)]
 pub enum Left {
     /// Whoever has connected did not greet in time.
     Silent,

@@ -14,7 +14,7 @@ use std::time::{Clock, Duration};
 const STRICT_PATIENCE: u64 = 10;
 
 /// What one finds out who follows how far replies may go.
-#[derive(Clone, Copy, Debug, PartialEq, Eq)]
+#[derive(Clone, Copy)]
 pub enum Followed {
     /// They may go further than at the change with this number. `alone`: from now on without the standby, which is said once.
     Further { change: u64, alone: bool },
@@ -57,7 +57,7 @@ impl Awaited {
 }
 
 /// What came of waiting for the standby.
-#[derive(Debug, Drop)]
+#[derive(Drop)]
 pub enum Waited {
     /// It has what was waited for, or nobody need wait any longer.
     Confirmed(Confirmed),

@@ -8,8 +8,8 @@ ghost use Rattle.store_files.specs.Noting.{IsKept};
 use crate::appending::Files;
 use crate::copying::{Copying, Followed, Waited};
 use crate::pad_device::make_room;
+use crate::promised::Promised;
 use crate::reserve::{Reserve, is_full};
-use crate::settlement::Promised;
 use crate::spares::{Spare, Spares};
 use group_commit::{Commits, Confirmation, Note, Unnoted};
 use log::{error, warn};
@@ -18,7 +18,7 @@ use pad_model::{Name, Refusal};
 use server_counts::Histogram;
 use server_log::ServerLog;
 use shared_pads::Answered;
-use std::alloc::{AllocError, Global};
+use std::alloc::Global;
 use std::fs::File;
 use std::io;
 use std::io::ErrorKind;
@@ -60,6 +60,15 @@ pub struct Keeper {
     held: OpenFolder,
 }
 
+/// What a keeper has beside the files of the pads. All that may fail in making it is done before these are handed over.
+#[derive(Drop)]
+pub(crate) struct KeeperParts {
+    pub commits: Commits,
+    pub copying: Copying,
+    pub reserve: Reserve,
+    pub syncs: Histogram,
+}
+
 /// What stays open of a store as long as the server runs.
 #[derive(Drop)]
 pub struct OpenFolder {
@@ -76,31 +85,27 @@ impl Keeper {
         folder: String,
         replica: u16,
         pads: Vec<Mutex<OpenPadFile>>,
-        copying: Copying,
-        reserve: Reserve,
+        parts: KeeperParts,
         held: OpenFolder,
-    ) -> Result<Keeper, AllocError> {
-        let cells = u32::try_from(pads.len()).unwrap_or(u32::MAX);
-        let commits = Commits::new(files.alloc(), cells)?;
+    ) -> Keeper {
         let spares = Spares::new(files.alloc());
-        let syncs = Histogram::new(files.alloc())?;
         let keeper = Keeper {
             files,
             folder,
             replica,
             pads,
-            commits,
-            copying,
-            reserve,
+            commits: parts.commits,
+            copying: parts.copying,
+            reserve: parts.reserve,
             spares,
-            syncs,
+            syncs: parts.syncs,
             is_short: AtomicBool::new(false),
             held,
         };
         let now = keeper.seconds();
         keeper.copying.progress.heard_at.set(now);
         keeper.copying.progress.whole_at.set(now);
-        Ok(keeper)
+        keeper
     }
 
     /// Notes what a request leaves to be kept: a line for each record, which whoever settles appends to the pad's file. It
@@ -125,7 +130,8 @@ impl Keeper {
         let Ok(more) = told.more else {
             return Err(Unnoted::Memory);
         };
-        let Ok(records) = records_of(alloc, told.who, told.request, told.answer, more.as_slice())
+        let more = more.as_slice();
+        let Ok(records) = records_of(alloc, told.who, told.request, told.at, told.answer, more)
         else {
             return Err(Unnoted::Memory);
         };
@@ -133,7 +139,7 @@ impl Keeper {
             return Ok(());
         }
         let note = Note {
-            at: self.seconds(),
+            at: told.at / 1000,
             records,
         };
         self.commits.note(rt, told.cell, note)
@@ -301,7 +307,7 @@ impl Keeper {
     }
 
     /// Waits until everything noted before is synced, and the standby has it where that was promised, or fails. It is called
-    /// before a reply is written, under no pad's lock. Threads that wait append and sync together; after a failure each call
+    /// before a line to a peer is written, under no pad's lock. Threads that wait append and sync together; after a failure each call
     /// fails.
     pub fn settle<R: Wait + Clock>(&self, rt: &R) -> io::Result<Promised> {
         let kept = self.commits.settle(rt, &Files::new(rt, self))?;

@@ -26,7 +26,7 @@ pub struct PadFile<S: Sequence> {
 }
 
 /// Why a file of a store is refused.
-#[derive(Clone, Copy, Debug)]
+#[derive(Clone, Copy)]
 pub enum Unloaded {
     /// It could not be read, cut or moved.
     Untouched(io::Error),
@@ -56,16 +56,18 @@ impl From<io::Error> for Unloaded {
     }
 }
 
-/// Loads one pad. Its file is cut after the last line that was read; a file whose pad was never named is moved aside.
+/// Loads one pad. Its file is cut after the last line that was read; a file whose pad was never named is moved aside. The
+/// numbers of the servers that wrote it are added to `numbers`, each once.
 pub fn load_file<S: Sequence>(
     files: &HostRuntime,
     folder: &str,
     name: &str,
     owner: &Owner,
+    numbers: &mut Vec<u16>,
 ) -> Result<Option<PadFile<S>>, Unloaded> {
     let path = path_of(files.alloc(), folder, name)?;
     let pad = name.strip_suffix(".pad").unwrap_or(name);
-    match load_pieces(files, path.as_str(), pad, owner)? {
+    match load_pieces(files, path.as_str(), pad, owner, numbers)? {
         Ok(loaded) => {
             check_owner(owner, &loaded)?;
             let opened = open_loaded(files, path.as_str(), owner.replica(), loaded)?;

@@ -1,6 +1,7 @@
 //! Loads a pad from its file piece by piece: the whole file is never in memory beside its pad.
 ghost use Rattle.std.specs.Prelude.{◌≡◌, ◌≤◌, ◌+◌, IsTrue, drop, vec_len};
 
+use crate::earlier::note_numbers;
 use crate::owner::Owner;
 use pad_model::Sequence;
 use std::alloc::Global;
@@ -12,28 +13,31 @@ use store_format::{Damage, Loaded, Loading};
 /// The number of bytes of a file that are read at once.
 const PIECE: usize = 262_144;
 
-/// Loads the pad with this name from its file.
+/// Loads the pad with this name from its file, and adds the numbers of the servers that wrote the file, each once.
 pub fn load_pieces<S: Sequence>(
     files: &HostRuntime,
     path: &str,
     name: &str,
     owner: &Owner,
+    numbers: &mut Vec<u16>,
 ) -> io::Result<Result<Loaded<S>, Damage>> {
     let mut file = File::open(files, path)?;
     match Loading::new(files.alloc(), owner.replica(), owner.present()) {
-        Ok(loading) => load_from(files.alloc(), &mut file, loading, name, PIECE),
+        Ok(loading) => load_from(files.alloc(), &mut file, loading, name, PIECE, numbers),
         Err(damage) => Ok(Err(damage)),
     }
 }
 
 /// Loads the pad with this name from the rest of a source, in pieces of `piece` bytes. Within a longer line, each piece is
-/// as long as the part of the line before it, so that a line is searched for its end only a few times.
+/// as long as the part of the line before it, so that a line is searched for its end only a few times. The numbers of the
+/// servers that wrote it are added to `numbers`, each once.
 pub fn load_from<R: Read, S: Sequence>(
     alloc: Global,
     source: &mut R,
     begun: Loading<S>,
     name: &str,
     piece: usize,
+    numbers: &mut Vec<u16>,
 ) -> io::Result<Result<Loaded<S>, Damage>> {
     let mut loading = begun;
     let mut bytes = Vec::new(alloc);
@@ -50,6 +54,7 @@ pub fn load_from<R: Read, S: Sequence>(
             Err(damage) => return Ok(Err(damage)),
         };
         loading = next;
+        note_numbers(numbers, &bytes.as_slice()[..taken])?;
         drop_front(&mut bytes, taken);
     }
     Err(io::Error::from(ErrorKind::FileTooLarge))

@@ -1,8 +1,11 @@
 //! The files of a store at the start of the server.
+ghost use Rattle.std.specs.Prelude.{◌<◌};
+
+use crate::earlier::add_numbers;
 use crate::owner::Owner;
 use crate::pad_file::{PadFile, Unloaded, load_file};
 use pad_model::Sequence;
-use std::alloc::AllocError;
+use std::alloc::{AllocError, Global};
 use std::sync::atomic::{AtomicU64, Ordering};
 use std::thread;
 use std::thread::Threads;
@@ -17,6 +20,8 @@ pub struct Read<S: Sequence> {
     name: String,
     /// None: it was not read yet.
     outcome: Option<Result<Option<PadFile<S>>, Unloaded>>,
+    /// The numbers of the servers that wrote it.
+    numbers: Vec<u16>,
 }
 
 impl<S: Sequence> Read<S> {
@@ -70,6 +75,7 @@ pub fn read_all<R: Threads + Sync, S: Sequence + Send>(
         reads.push(Read {
             name,
             outcome: None,
+            numbers: Vec::new(files.alloc()),
         })?;
     }
     let tally = ReadingTally {
@@ -78,19 +84,41 @@ pub fn read_all<R: Threads + Sync, S: Sequence + Send>(
         read: AtomicU64::new(0),
         told: AtomicU64::new(SILENCE - 1),
     };
-    let threads = match thread::available_parallelism(rt) {
-        Ok(count) => count.get().max(1),
-        Err(_) => 1,
-    };
     let tally = &tally;
     thread::for_each_mut(
         rt,
         reads.as_mut_slice(),
-        threads,
+        reading_threads(rt),
         &|_place: usize, read: &mut Read<S>| {
-            read.outcome = Some(load_file(files, folder, read.name.as_str(), owner));
+            let name = read.name.as_str();
+            read.outcome = Some(load_file(files, folder, name, owner, &mut read.numbers));
             tally.note(files);
         },
     );
     Ok(reads)
+}
+
+/// As many threads as there are processors, or one where that is not known.
+fn reading_threads<R: Threads>(rt: &R) -> usize
+    ensures { 0 < result }
+{
+    match thread::available_parallelism(rt) {
+        Ok(count) => count.get().max(1),
+        Err(_) => 1,
+    }
+}
+
+/// The numbers of the servers that wrote these files, in ascending order, but for this one.
+pub fn earlier_numbers<S: Sequence>(
+    alloc: Global,
+    reads: &[Read<S>],
+    own: u16,
+) -> Result<Vec<u16>, AllocError> {
+    let mut numbers = Vec::new(alloc);
+    for read in reads {
+        add_numbers(&mut numbers, read.numbers.as_slice())?;
+    }
+    numbers.retain(|number| *number != own);
+    numbers.sort()?;
+    Ok(numbers)
 }

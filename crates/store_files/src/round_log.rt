@@ -25,7 +25,7 @@ const ROUNDS: &str = "rounds";
 const LONGEST: u64 = 16_777_216;
 
 /// A round is in the log of a standby, and the log is synced. Only `log_round` says so.
-#[derive(Debug, Drop)]
+#[derive(Drop)]
 pub struct Logged {
     // The number of its bytes.
     bytes: u64,

@@ -1,6 +1,5 @@
 //! Lines that go out after the store is synced.
 use crate::keeper::Keeper;
-use crate::settlement::Settlement;
 use crate::waiting::Waiting;
 use std::io;
 use std::io::Write;
@@ -28,8 +27,11 @@ impl<W: Write, R: Wait + Clock> Write for Settled<'_, W, R> {
     ghost contents = { λ s. W.contents s.waiting.inner };
 
     fn write(&mut self, bytes: &[u8]) -> io::Result<usize> {
-        let settlement = Settlement::reach(self.rt, self.waiting.keeper())?;
-        self.waiting.write(&settlement, bytes)
+        let promised = match self.waiting.keeper() {
+            Some(keeper) => Some(keeper.settle(self.rt)?),
+            None => None,
+        };
+        self.waiting.write(promised, bytes)
     }
 
     fn flush(&mut self) -> io::Result<()> {

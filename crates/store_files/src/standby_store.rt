@@ -31,14 +31,14 @@ pub struct CopiedFile {
 
 /// A crash takes nothing of a round any more. Only `StandbyStore::keep` says so: the round is in the log, which is synced, or
 /// it has nothing.
-#[derive(Debug, Drop)]
+#[derive(Drop)]
 pub struct KeptRound {
     // What the log says, unless the round has nothing.
     logged: Option<Logged>,
 }
 
 /// Why a round is not kept.
-#[derive(Debug, Drop)]
+#[derive(Drop)]
 pub enum Unkept {
     /// A stretch does not stand behind the copy of its pad's file. Nothing was changed.
     NoStretch { pad: Name, why: NoStretch },
@@ -243,7 +243,9 @@ fn read_copy<'f>(
     let alloc = files.alloc();
     let pad = name.strip_suffix(".pad").unwrap_or(name);
     let path = format!(in alloc; "{folder}/{name}")?;
-    let (length, sum) = match load_pieces::<BlockSeq>(files, path.as_str(), pad, owner) {
+    let mut numbers = Vec::new(alloc);
+    let loaded = load_pieces::<BlockSeq>(files, path.as_str(), pad, owner, &mut numbers);
+    let (length, sum) = match loaded {
         Ok(Ok(loaded)) => (loaded.whole, loaded.sum),
         Ok(Err(Damage::Empty)) => (0, String::new(alloc)),
         Ok(Err(Damage::Memory)) => return Err(StoreError::Memory),

@@ -1,17 +1,18 @@
 //! The pads of a store at the start of the server.
 use crate::copying::Copying;
-use crate::keeper::{Keeper, OpenFolder, OpenPadFile};
+use crate::keeper::{Keeper, KeeperParts, OpenFolder, OpenPadFile};
 use crate::owner::Owner;
 use crate::pad_file::PadFile;
-use crate::reading::{Read, read_all};
+use crate::reading::{Read, earlier_numbers, read_all};
 use crate::reserve::Reserve;
 use crate::round_log::put_back;
 use crate::spares::PRIVATE;
 use crate::store_error::StoreError;
 use block_seq::BlockSeq;
-use group_commit::Confirm;
+use group_commit::{Commits, Confirm};
 use log::warn;
 use pad_core::Pad;
+use server_counts::Histogram;
 use server_log::ServerLog;
 use shared_pads::{LockedPad, SharedPad};
 use std::alloc::{AllocError, Global};
@@ -33,6 +34,8 @@ pub struct Stored {
     pub cells: Vec<SharedPad<BlockSeq>>,
     /// The revision of the pad at each cell.
     pub revisions: Vec<u64>,
+    /// The earlier numbers of the server: those of the servers that wrote files before, but its own.
+    pub numbers: Vec<u16>,
     /// Notes what is answered at these cells. It holds the folder's lock until it is dropped.
     pub keeper: Keeper,
 }
@@ -63,37 +66,58 @@ where
 {
     let kept_in = String::from_str(rt.alloc(), folder)?;
     let (held, names) = open_folder(rt, &files, folder)?;
-    let LoadingPads {
-        cells,
-        revisions,
-        files: opened,
-        ..
-    } = load_row(rt, &files, folder, names, owner, size)?;
+    let row = load_row(rt, &files, folder, names, owner, size)?;
+    let parts = keeper_parts(rt, &files, folder, row.files.as_slice(), confirm)?;
+    Ok(Stored {
+        cells: row.cells,
+        revisions: row.revisions,
+        numbers: row.numbers,
+        keeper: Keeper::new(files, kept_in, owner.replica(), row.files, parts, held),
+    })
+}
+
+// What the keeper of these files has beside them.
+fn keeper_parts<'f, R>(
+    rt: &R,
+    files: &HostRuntime,
+    folder: &'f str,
+    opened: &[Mutex<OpenPadFile>],
+    confirm: Option<Confirm>,
+) -> Result<KeeperParts, StoreError<'f>>
+where
+    R: Runtime<A = Global, File = File> + Wait,
+{
+    let cells = u32::try_from(opened.len()).unwrap_or(u32::MAX);
     let copying = Copying::new(rt.alloc(), opened.len(), confirm)?;
-    for file in &opened {
+    for file in opened {
         copying.progress.synced_bytes.add(file.lock(rt).synced);
     }
+    Ok(KeeperParts {
+        commits: Commits::new(rt.alloc(), cells)?,
+        copying,
+        reserve: open_reserve(rt, files, folder)?,
+        syncs: Histogram::new(rt.alloc())?,
+    })
+}
+
+// Takes the reserve of the disk, or says that there is no room for it.
+fn open_reserve<'f, R>(
+    rt: &R,
+    files: &HostRuntime,
+    folder: &'f str,
+) -> Result<Reserve, StoreError<'f>>
+where
+    R: Runtime<A = Global, File = File> + Wait,
+{
     let path = format!(in rt.alloc(); "{folder}/reserve")?;
-    let reserve = match Reserve::open(&files, path.as_str()) {
+    let reserve = match Reserve::open(files, path.as_str()) {
         Ok(reserve) => reserve,
         Err(cause) => return Err(StoreError::Unopened { folder, cause }),
     };
     if !reserve.is_whole(rt) {
         warn!(ServerLog(rt); "the disk of the store {folder} is full: nothing is taken that has to be kept");
     }
-    Ok(Stored {
-        cells,
-        revisions,
-        keeper: Keeper::new(
-            files,
-            kept_in,
-            owner.replica(),
-            opened,
-            copying,
-            reserve,
-            held,
-        )?,
-    })
+    Ok(reserve)
 }
 
 // The folder and its lock, and the names of its files. If the folder is that of a standby, its files are completed first.
@@ -133,13 +157,14 @@ where
     R: Runtime<A = Global, File = File> + Threads + Wait + Sync,
 {
     let alloc = rt.alloc();
+    let reads: Vec<Read<BlockSeq>> = read_all(rt, files, folder, names, owner)?;
     let mut row = LoadingPads {
         seats: size.seats,
         cells: Vec::new(alloc),
         revisions: Vec::new(alloc),
         files: Vec::new(alloc),
+        numbers: earlier_numbers(alloc, reads.as_slice(), owner.replica())?,
     };
-    let reads: Vec<Read<BlockSeq>> = read_all(rt, files, folder, names, owner)?;
     for read in reads {
         row.take(alloc, folder, size.cells, read)?;
     }
@@ -158,6 +183,8 @@ struct LoadingPads {
     cells: Vec<SharedPad<BlockSeq>>,
     revisions: Vec<u64>,
     files: Vec<Mutex<OpenPadFile>>,
+    /// The numbers of the servers that wrote the files, but for this one.
+    numbers: Vec<u16>,
 }
 
 impl LoadingPads {
@@ -188,13 +215,14 @@ impl LoadingPads {
             file,
             length,
         } = opened;
-        self.add_file(OpenPadFile {
+        let has_file = self.add_file(OpenPadFile {
             file: Some(file),
             writer,
             name,
             synced: length,
-        })?;
-        self.add_pad(alloc, pad)
+        });
+        let has_pad = self.add_pad(alloc, pad);
+        has_file.and(has_pad)
     }
 
     // Adds a cell without a pad.

@@ -4,7 +4,7 @@ ghost use Rattle.std.specs.Io.KnownBytes.{Keeps, WriteAppends};
 ghost use Rattle.std.specs.Io.{WritesAtMost};
 
 use crate::keeper::Keeper;
-use crate::settlement::Settlement;
+use crate::promised::Promised;
 use std::io;
 use std::io::Write;
 
@@ -32,13 +32,13 @@ impl<'a, W> Waiting<'a, W> {
 }
 
 impl<W: Write> Waiting<'_, W> {
-    /// Writes some of these bytes. The settlement is that of the store for which it waits.
-    pub fn write(&mut self, settlement: &Settlement, bytes: &[u8]) -> io::Result<usize>
-        requires { is_some settlement.now.kept ≡ is_some self.old.keeper }
+    /// Writes some of these bytes. Where it waits for a store, what that store promised is there.
+    pub fn write(&mut self, promised: Option<Promised>, bytes: &[u8]) -> io::Result<usize>
+        requires { is_some promised ≡ is_some self.old.keeper }
         ensures bound { WritesAtMost result bytes.now }
         ensures bytes { WriteAppends (W.contents self.old.inner) (W.contents self.new.inner) result bytes.now }
     {
-        let _settled = settlement;
+        let _kept = promised;
         self.inner.write(bytes)
     }
 

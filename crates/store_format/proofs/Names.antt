@@ -6,12 +6,13 @@ use Rattle.std.proofs.lemmas.Slice.Eq.{bytes_eq-Decides}
 use Rattle.pad_model.specs.Checked.{is_name}
 use Rattle.pad_model.specs.declared.refusal.Refusal.{Refusal}
 use Rattle.pad_model.specs.declared.refusal.Refusal.TheVariants.{BadName}
+use Rattle.rights.specs.Rights.{can_have}
 use Rattle.pad_core.specs.Machine.{Machine, claim, name_of}
 use Rattle.pad_core.specs.Restart.{ended, restore_claim}
 use Rattle.pad_core.specs.declared.owned.Owned.{Owned}
 use Rattle.store_records.specs.Records.{rebuilt, replay, replay_all, replayed, unless_refused, unnamed}
 use Rattle.store_records.specs.declared.kept_record.Record.{Record}
-use Rattle.store_records.specs.declared.kept_record.Record.TheVariants.{Named, Granted, Visited, Delivered}
+use Rattle.store_records.specs.declared.kept_record.Record.TheVariants.{Named, Granted, Handed, Marked, Visited, Delivered}
 use Rattle.store_format.specs.Files.{Read, if_called, if_named}
 use Rattle.store_format.specs.declared.reader.Damage.TheVariants.{Empty, OtherPad}
 
@@ -36,11 +37,17 @@ owning o m = record m { owned = o }
 one_stays : (kept : Record) (owned : Owned) (m : Machine) →
     name_of (replay kept (owning (Some owned) m)).1.owned ≡ Some owned.name
 one_stays (Named name owner) owned m = refl
-one_stays (Granted author right) owned m =
+one_stays (Granted grantee right) owned m =
+    either (λ (done : Result (Unit {0}) Refusal × Machine). name_of done.1.owned ≡ Some owned.name)
+    (not (can_have grantee right)) (Err BadName, owning (Some owned) m) _ refl refl
+one_stays (Handed author) owned m =
     either (λ (done : Result (Unit {0}) Refusal × Machine). name_of done.1.owned ≡ Some owned.name)
     (not (is_name author)) (Err BadName, owning (Some owned) m) _ refl refl
+one_stays (Marked this) owned m =
+    either (λ (done : Result (Unit {0}) Refusal × Machine). name_of done.1.owned ≡ Some owned.name)
+    (not (is_name this.author)) (Err BadName, owning (Some owned) m) _ refl refl
 one_stays Visited owned m = refl
-one_stays (Delivered op) owned m = refl
+one_stays (Delivered at op) owned m = refl
 
 none_is_some : (n : List ℕ) → (let o : Option (List ℕ) = None in o) ≡ Some n → ⊥
 none_is_some n h = cc

@@ -1,26 +1,33 @@
 -- The written text of a header or a record has its meaning, and is one line.
 use Rattle.std.proofs.Common.{◌≡◌, ℕ, ◌≤◌, ◌≢◌, List, [], ◌∷◌, Bool, true, false, true≢false, Option, Some, None}
 use Rattle.std.proofs.Common.{option_map, option_and_then, Result, Ok, Err, IfOk, refl, sym, ap, ◌∙◌, subst, arith}
-use Rattle.std.proofs.Common.{lit≤}
+use Rattle.std.proofs.Common.{lit≤, ap₂, min, ◌+◌, ◌-◌, ◌*◌, ◌/◌, ◌%◌, ◌^◌, ◌<◌}
+use Rattle.std.proofs.lemmas.Nat.{div-add-mod'}
 use Rattle.std.specs.List.{AllByRecursion}
-use Rattle.std.specs.Str.{IsUtf8}
+use Rattle.std.specs.Str.{IsUtf8, all_scalars}
 use Rattle.serde_json.specs.Data.{Data, depth}
 use Rattle.serde_json.specs.Read.{max_depth, read}
 use Rattle.serde_json.specs.Written.{compact_text, has_float}
+use Rattle.rights.specs.declared.grantee.Grantee.{Grantee}
+use Rattle.rights.specs.declared.grantee.Grantee.TheVariants.{Author, Everyone}
 use Rattle.rights.specs.declared.right.Right.{Right}
 use Rattle.rights.specs.declared.right.Right.TheVariants as right
 use Rattle.pad_model.specs.declared.op.Op.{Op}
 use Rattle.store_records.specs.declared.kept_record.Record.{Record}
-use Rattle.store_records.specs.declared.kept_record.Record.TheVariants.{Named, Granted, Visited, Delivered}
+use Rattle.store_records.specs.declared.kept_record.Record.TheVariants.{Named, Granted, Handed, Marked, Visited, Delivered}
+use Rattle.named_revisions.specs.declared.named_revision.NamedRevision.{NamedRevision}
+use Rattle.wire_json.specs.Forms.{text_data}
+use Rattle.wire_json.specs.Reading.{of_three, text_in}
 use Rattle.wire_json.specs.Lines.{value_of}
 use Rattle.wire_json.specs.Operations.{op_data}
 use Rattle.wire_json.specs.Peers.{push_request}
+use Rattle.wire_json.proofs.Again.{text_again}
 use Rattle.wire_json.proofs.OneLine.{text_plain}
 use Rattle.wire_json.proofs.OpAgain.{reads_again}
 use Rattle.wire_json.proofs.Plain.{push_has_no_float, push_is_shallow}
 use Rattle.wire_json.proofs.Values.{value_of_text}
 use Rattle.store_format.specs.Entries.{entry_in, entry_said, header_data}
-use Rattle.store_format.specs.Forms.{IsSayableRecord, record_data}
+use Rattle.store_format.specs.Forms.{IsSayableRecord, marked_at, record_data}
 use Rattle.store_format.specs.Laws.{IsLine, Tells}
 use Rattle.store_format.specs.declared.entry.StoreLine.{StoreLine}
 use Rattle.store_format.specs.declared.entry.StoreLine.TheVariants as entry
@@ -46,48 +53,91 @@ op_has_no_float op = at (has_float (op_data op)) refl
 pub record_has_no_float : (at : ℕ) (together : Bool) (kept : Record) → has_float (record_data at together kept) ≡ false
 record_has_no_float at true (Named name owner) = refl
 record_has_no_float at false (Named name owner) = refl
-record_has_no_float at true (Granted author given) = refl
-record_has_no_float at false (Granted author given) = refl
+record_has_no_float at true (Granted (Author name) given) = refl
+record_has_no_float at true (Granted Everyone given) = refl
+record_has_no_float at false (Granted (Author name) given) = refl
+record_has_no_float at false (Granted Everyone given) = refl
+record_has_no_float at true (Handed author) = refl
+record_has_no_float at false (Handed author) = refl
+record_has_no_float at true (Marked named) = refl
+record_has_no_float at false (Marked named) = refl
 record_has_no_float at true Visited = refl
 record_has_no_float at false Visited = refl
-record_has_no_float at true (Delivered op) = rw (op_has_no_float op) refl
-record_has_no_float at false (Delivered op) = rw (op_has_no_float op) refl
+record_has_no_float now true (Delivered at op) = rw (op_has_no_float op) refl
+record_has_no_float now false (Delivered at op) = rw (op_has_no_float op) refl
 
 pub record_is_shallow : (at : ℕ) (together : Bool) (kept : Record) → depth (record_data at together kept) ≤ max_depth
 record_is_shallow at true (Named name owner) = lit≤ tt
 record_is_shallow at false (Named name owner) = lit≤ tt
-record_is_shallow at true (Granted author given) = lit≤ tt
-record_is_shallow at false (Granted author given) = lit≤ tt
+record_is_shallow at true (Granted (Author name) given) = lit≤ tt
+record_is_shallow at true (Granted Everyone given) = lit≤ tt
+record_is_shallow at false (Granted (Author name) given) = lit≤ tt
+record_is_shallow at false (Granted Everyone given) = lit≤ tt
+record_is_shallow at true (Handed author) = lit≤ tt
+record_is_shallow at false (Handed author) = lit≤ tt
+record_is_shallow at true (Marked named) = lit≤ tt
+record_is_shallow at false (Marked named) = lit≤ tt
 record_is_shallow at true Visited = lit≤ tt
 record_is_shallow at false Visited = lit≤ tt
-record_is_shallow at true (Delivered op) = omega (arith, push_is_shallow [] op)
-record_is_shallow at false (Delivered op) = omega (arith, push_is_shallow [] op)
+record_is_shallow now true (Delivered at op) = omega (arith, push_is_shallow [] op)
+record_is_shallow now false (Delivered at op) = omega (arith, push_is_shallow [] op)
 
-granted_again : (at : ℕ) (together : Bool) (author : List ℕ) (given : Option Right) →
-    entry_in (record_data at together (Granted author given)) ≡ Some (entry.Record (Granted author given))
-granted_again at true author None = refl
-granted_again at true author (Some right.Read) = refl
-granted_again at true author (Some right.Comment) = refl
-granted_again at true author (Some right.Write) = refl
-granted_again at true author (Some right.Own) = refl
-granted_again at false author None = refl
-granted_again at false author (Some right.Read) = refl
-granted_again at false author (Some right.Comment) = refl
-granted_again at false author (Some right.Write) = refl
-granted_again at false author (Some right.Own) = refl
+granted_again : (at : ℕ) (together : Bool) (grantee : Grantee) (given : Option Right) →
+    entry_in (record_data at together (Granted grantee given)) ≡ Some (entry.Record (Granted grantee given))
+granted_again at true (Author name) None = refl
+granted_again at true (Author name) (Some right.Read) = refl
+granted_again at true (Author name) (Some right.Comment) = refl
+granted_again at true (Author name) (Some right.Write) = refl
+granted_again at true (Author name) (Some right.Own) = refl
+granted_again at true Everyone None = refl
+granted_again at true Everyone (Some right.Read) = refl
+granted_again at true Everyone (Some right.Comment) = refl
+granted_again at true Everyone (Some right.Write) = refl
+granted_again at true Everyone (Some right.Own) = refl
+granted_again at false (Author name) None = refl
+granted_again at false (Author name) (Some right.Read) = refl
+granted_again at false (Author name) (Some right.Comment) = refl
+granted_again at false (Author name) (Some right.Write) = refl
+granted_again at false (Author name) (Some right.Own) = refl
+granted_again at false Everyone None = refl
+granted_again at false Everyone (Some right.Read) = refl
+granted_again at false Everyone (Some right.Comment) = refl
+granted_again at false Everyone (Some right.Write) = refl
+granted_again at false Everyone (Some right.Own) = refl
+
+-- a time is read again from its seconds and milliseconds
+time_again : (at : ℕ) → at < 2 ^ 64 →
+    min (min (at / 1000 * 1000) (2 ^ 64 - 1) + at % 1000) (2 ^ 64 - 1) ≡ at
+time_again at small =
+    let whole : at / 1000 * 1000 + at % 1000 ≡ at = div-add-mod' at 1000 in
+    omega (arith, whole, small)
+
+-- a named revision is read again from its fields
+marked_again : (named : NamedRevision) → all_scalars named.text ≡ true → named.at < 2 ^ 64 →
+    option_map entry.Record (of_three (marked_at (min (min (named.at / 1000 * 1000) (2 ^ 64 - 1) + named.at % 1000) (2 ^ 64 - 1)))
+    (Some named.author) (Some named.rev) (text_in (text_data named.text))) ≡ Some (entry.Record (Marked named))
+marked_again named scalars small =
+    ap₂ (λ (t : ℕ) (o : Option (List ℕ)). option_map entry.Record (of_three (marked_at t) (Some named.author) (Some named.rev) o))
+    (time_again named.at small) (text_again named.text scalars)
 
 -- the written form of a record is read as the record
 pub record_again : (at : ℕ) (together : Bool) (kept : Record) → IsSayableRecord kept →
     entry_in (record_data at together kept) ≡ Some (entry.Record kept)
 record_again at true (Named name owner) h = refl
 record_again at false (Named name owner) h = refl
-record_again at together (Granted author given) h = granted_again at together author given
+record_again at together (Granted grantee given) h = granted_again at together grantee given
+record_again at true (Handed author) h = refl
+record_again at false (Handed author) h = refl
+record_again now true (Marked named) (scalars, small) = marked_again named scalars small
+record_again now false (Marked named) (scalars, small) = marked_again named scalars small
 record_again at true Visited h = refl
 record_again at false Visited h = refl
-record_again at true (Delivered op) (checked, sayable) =
-    ap (λ (o : Option Op). option_map entry.Record (option_map Delivered o)) (reads_again op checked sayable)
-record_again at false (Delivered op) (checked, sayable) =
-    ap (λ (o : Option Op). option_map entry.Record (option_map Delivered o)) (reads_again op checked sayable)
+record_again now true (Delivered at op) (checked, sayable, small) =
+    ap₂ (λ (t : ℕ) (o : Option Op). option_map entry.Record (option_map (Delivered t) o)) (time_again at small)
+    (reads_again op checked sayable)
+record_again now false (Delivered at op) (checked, sayable, small) =
+    ap₂ (λ (t : ℕ) (o : Option Op). option_map entry.Record (option_map (Delivered t) o)) (time_again at small)
+    (reads_again op checked sayable)
 
 pub header_again : (pad : List ℕ) (replica : ℕ) → entry_in (header_data pad replica)
     ≡ Some (entry.Header (record { pad = pad; replica = replica }))

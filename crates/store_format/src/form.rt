@@ -4,34 +4,52 @@ ghost use Rattle.serde_json.specs.View.{members_view, view};
 ghost use Rattle.wire_json.specs.Forms.{with_fields};
 ghost use Rattle.wire_json.specs.Operations.{op_data};
 ghost use Rattle.wire_json.specs.Reading.{IsRead};
-ghost use Rattle.store_records.specs.declared.kept_record.Record.TheVariants.{Delivered};
+ghost use Rattle.rights.specs.declared.grantee.Grantee.TheVariants.{Author, Everyone};
+ghost use Rattle.store_records.specs.declared.kept_record.Record.TheVariants.{Delivered, Granted, Marked};
 ghost use Rattle.store_format.specs.Forms.{record_data, record_fields, record_in, record_of};
 ghost use Rattle.store_format.specs.Forms as forms;
 
-use pad_model::{Op, Refusal};
-use rights::Right;
+use named_revisions::NamedRevision;
+use pad_model::{Name, Op, Refusal};
+use rights::{Grantee, Right};
 use serde_json::{Map, Value, put};
 use std::alloc::{AllocError, Global};
 use store_records::Record;
-use wire_json::{granted_by, name_field, name_value, op_value, read_op, right_word, str_field};
+use wire_json::{
+    granted_by, name_field, name_value, number_field, op_value, read_op, right_word, str_field,
+    text_field, text_value,
+};
 
-/// A record as a JSON value. `at` is the time in seconds since 1970, and `together` tells whether it is written
-/// together with an earlier line that is not yet synced.
+/// A record as a JSON value. `now` is the time in seconds since 1970, and `together` tells whether it is written
+/// together with an earlier line that is not yet synced. An operation has its own time, and so has a named revision.
 pub fn record_value(
     alloc: Global,
-    at: u64,
+    now: u64,
     together: bool,
     kept: &Record,
 ) -> Result<Value, AllocError>
-    ensures { IfOk result (λ v. view v ≡ record_data at together kept.now) }
+    ensures { IfOk result (λ v. view v ≡ record_data now together kept.now) }
 {
     let mut fields = Map::new(alloc);
-    put(&mut fields, alloc, "at", Value::from(at))?;
+    put(&mut fields, alloc, "at", Value::from(seconds_of(now, kept)))?;
     if together {
         put(&mut fields, alloc, "together", Value::Bool(true))?;
     }
     put_record(alloc, &mut fields, kept)?;
     Ok(Value::Object(fields))
+}
+
+/// The seconds since 1970 that a record has: those of its operation, of when a revision was named, or of when it is
+/// written.
+fn seconds_of(now: u64, kept: &Record) -> u64
+    ensures { result ≡ forms.seconds_of now kept.now }
+{
+    match kept {
+        Record::Delivered { at, .. } => *at / 1000,
+        Record::Marked { named } => named.at / 1000,
+        Record::Named { .. } | Record::Granted { .. } | Record::Handed { .. } | Record::Visited =>
+            now,
+    }
 }
 
 fn put_record(
@@ -48,34 +66,94 @@ fn put_record(
             put(fields, alloc, "name", name_value(alloc, name)?)?;
             put(fields, alloc, "owner", name_value(alloc, owner)?)
         }
-        Record::Granted { author, right } => {
-            put(fields, alloc, "author", name_value(alloc, author)?)?;
-            put(
-                fields,
-                alloc,
-                "kind",
-                Value::try_from_str(alloc, "granted")?,
-            )?;
-            put(
-                fields,
-                alloc,
-                "right",
-                Value::try_from_str(alloc, given_word(*right))?,
-            )
+        Record::Granted { grantee, right } => match grantee {
+            Grantee::Author(author) => put_granted(alloc, fields, author, *right),
+            Grantee::Everyone => put_everyone(alloc, fields, *right),
+        },
+        Record::Handed { author } => {
+            put(fields, alloc, "kind", Value::try_from_str(alloc, "handed")?)?;
+            put(fields, alloc, "owner", name_value(alloc, author)?)
         }
+        Record::Marked { named } => put_marked(alloc, fields, named),
         Record::Visited => put(
             fields,
             alloc,
             "kind",
             Value::try_from_str(alloc, "visited")?,
         ),
-        Record::Delivered { op } => put_delivered(alloc, fields, op),
+        Record::Delivered { at, op } => put_delivered(alloc, fields, *at, op),
     }
 }
 
-fn put_delivered(alloc: Global, fields: &mut Map<String, Value>, op: &Op) -> Result<(), AllocError>
+fn put_granted(
+    alloc: Global,
+    fields: &mut Map<String, Value>,
+    author: &Name,
+    right: Option<Right>,
+) -> Result<(), AllocError>
     ensures { OnOk result (members_view fields.new.entries
-        ≡ with_fields (record_fields (Delivered op.now)) (members_view fields.old.entries)) }
+        ≡ with_fields (record_fields (Granted (Author author.now) right)) (members_view fields.old.entries)) }
+{
+    put(fields, alloc, "author", name_value(alloc, author)?)?;
+    put(
+        fields,
+        alloc,
+        "kind",
+        Value::try_from_str(alloc, "granted")?,
+    )?;
+    put(
+        fields,
+        alloc,
+        "right",
+        Value::try_from_str(alloc, given_word(right))?,
+    )
+}
+
+fn put_everyone(
+    alloc: Global,
+    fields: &mut Map<String, Value>,
+    right: Option<Right>,
+) -> Result<(), AllocError>
+    ensures { OnOk result (members_view fields.new.entries
+        ≡ with_fields (record_fields (Granted Everyone right)) (members_view fields.old.entries)) }
+{
+    put(
+        fields,
+        alloc,
+        "kind",
+        Value::try_from_str(alloc, "everyone")?,
+    )?;
+    put(
+        fields,
+        alloc,
+        "right",
+        Value::try_from_str(alloc, given_word(right))?,
+    )
+}
+
+fn put_marked(
+    alloc: Global,
+    fields: &mut Map<String, Value>,
+    named: &NamedRevision,
+) -> Result<(), AllocError>
+    ensures { OnOk result (members_view fields.new.entries
+        ≡ with_fields (record_fields (Marked named.now)) (members_view fields.old.entries)) }
+{
+    put(fields, alloc, "author", name_value(alloc, &named.author)?)?;
+    put(fields, alloc, "kind", Value::try_from_str(alloc, "marked")?)?;
+    put(fields, alloc, "ms", Value::from(named.at % 1000))?;
+    put(fields, alloc, "rev", Value::from(named.rev))?;
+    put(fields, alloc, "text", text_value(alloc, &named.text)?)
+}
+
+fn put_delivered(
+    alloc: Global,
+    fields: &mut Map<String, Value>,
+    at: u64,
+    op: &Op,
+) -> Result<(), AllocError>
+    ensures { OnOk result (members_view fields.new.entries
+        ≡ with_fields (record_fields (Delivered at op.now)) (members_view fields.old.entries)) }
 {
     put(
         fields,
@@ -83,6 +161,7 @@ fn put_delivered(alloc: Global, fields: &mut Map<String, Value>, op: &Op) -> Res
         "kind",
         Value::try_from_str(alloc, "delivered")?,
     )?;
+    put(fields, alloc, "ms", Value::from(at % 1000))?;
     put(fields, alloc, "op", op_json(alloc, op)?)
 }
 
@@ -118,6 +197,9 @@ fn read_kind(alloc: Global, kind: &str, value: &Value) -> Result<Record, Refusal
     match kind {
         "named" => read_named(alloc, value),
         "granted" => read_granted(alloc, value),
+        "everyone" => read_everyone(value),
+        "handed" => read_handed(alloc, value),
+        "marked" => read_marked(alloc, value),
         "visited" => Ok(Record::Visited),
         "delivered" => read_delivered(alloc, value),
         _ => Err(Refusal::NotRequest),
@@ -135,11 +217,43 @@ fn read_named(alloc: Global, value: &Value) -> Result<Record, Refusal>
 fn read_granted(alloc: Global, value: &Value) -> Result<Record, Refusal>
     ensures { IsRead (record_of (codes "granted") (view value.now)) result }
 {
-    let author = name_field(alloc, value, "author")?;
+    let grantee = Grantee::Author(name_field(alloc, value, "author")?);
     match granted_by(str_field(value, "right")?) {
-        Some(right) => Ok(Record::Granted { author, right }),
+        Some(right) => Ok(Record::Granted { grantee, right }),
         None => Err(Refusal::NotRequest),
     }
+}
+
+fn read_everyone(value: &Value) -> Result<Record, Refusal>
+    ensures { IsRead (record_of (codes "everyone") (view value.now)) result }
+{
+    let grantee = Grantee::Everyone;
+    match granted_by(str_field(value, "right")?) {
+        Some(right) => Ok(Record::Granted { grantee, right }),
+        None => Err(Refusal::NotRequest),
+    }
+}
+
+fn read_handed(alloc: Global, value: &Value) -> Result<Record, Refusal>
+    ensures { IsRead (record_of (codes "handed") (view value.now)) result }
+{
+    let author = name_field(alloc, value, "owner")?;
+    Ok(Record::Handed { author })
+}
+
+fn read_marked(alloc: Global, value: &Value) -> Result<Record, Refusal>
+    ensures { IsRead (record_of (codes "marked") (view value.now)) result }
+{
+    let author = name_field(alloc, value, "author")?;
+    let rev = number_field(value, "rev")?;
+    let text = text_field(alloc, value, "text")?;
+    let named = NamedRevision {
+        rev,
+        author,
+        at: time_in(value),
+        text,
+    };
+    Ok(Record::Marked { named })
 }
 
 fn read_delivered(alloc: Global, value: &Value) -> Result<Record, Refusal>
@@ -149,6 +263,26 @@ fn read_delivered(alloc: Global, value: &Value) -> Result<Record, Refusal>
         return Err(Refusal::NotRequest);
     };
     Ok(Record::Delivered {
+        at: time_in(value),
         op: read_op(alloc, op)?,
     })
+}
+
+/// The time of a record in milliseconds since 1970. A file of an earlier version has its seconds alone.
+fn time_in(value: &Value) -> u64
+    ensures { result ≡ forms.time_in (view value.now) }
+{
+    number_or_none(value, "at")
+        .saturating_mul(1000)
+        .saturating_add(number_or_none(value, "ms"))
+}
+
+/// A number field, or 0.
+fn number_or_none(value: &Value, key: &str) -> u64
+    ensures { result ≡ forms.number_or_none key.now (view value.now) }
+{
+    match number_field(value, key) {
+        Ok(number) => number,
+        Err(_) => 0,
+    }
 }

@@ -41,6 +41,7 @@ impl PadWriter {
     /// Adds the first line of the file of a pad, or the line from which on the server with this number writes.
     pub fn begin(&mut self, alloc: Global, pad: &Name, replica: u16) -> Result<(), AllocError>
         ensures added { OnOk result (Adds (header_line pad.now replica ∷ []) self.old self.new) }
+        ensures kept { OnOk result (self.new.has_failed ≡ self.old.has_failed) }
         ensures failed { OnErr result (Adds [] self.old self.new × (self.new.has_failed ≡ true)) }
     {
         let added = self.add_header(alloc, pad, replica);

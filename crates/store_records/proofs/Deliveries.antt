@@ -1,7 +1,12 @@
 -- The operations of a log that a pad can have are delivered again, one after another.
 use Rattle.std.proofs.Common.{◌≡◌, ℕ, ◌+◌, ◌≤◌, true, cond, eq-eqb, List, [], ◌∷◌, ◌++◌}
 use Rattle.std.proofs.Common.{length, map, fold, flat_map, count_by, Option, None, Result, Ok, refl, sym, ap}
-use Rattle.std.proofs.Common.{◌∙◌, subst, arith, append-nil, append_assoc}
+use Rattle.std.proofs.Common.{◌∙◌, ap₂, subst, arith, append-nil, append_assoc, replicate, suc}
+use Rattle.op_log.specs.Times.{last_time}
+use Rattle.op_log.proofs.TimeLists.{last_filled}
+use Rattle.pad_core.specs.Times.{time_now, timed}
+use Rattle.pad_core.proofs.Timed.{Times, timed_more}
+use Rattle.store_records.specs.Laws.{now_at}
 use Rattle.std.specs.Prelude.{IsTrue, sum_by}
 use Rattle.std.proofs.lemmas.List.{length-append}
 use Rattle.std.proofs.lemmas.List.Concat.{flat_map-append}
@@ -24,9 +29,17 @@ use Rattle.pad_core.proofs.Judged.{Allowed, not_refused}
 use Rattle.store_records.specs.Records.{replay_all, replayed, unless_refused}
 use Rattle.store_records.specs.declared.kept_record.Record.TheVariants.{Delivered}
 
--- a restarted pad with this owner, these numbers and this log
-abbrev pub bare : Option Owned → ℕ → ℕ → List Op → ℕ → Machine
-bare o replica limit log given = record { owned = o; replica = replica; log = log; held = []; presence = record { limit = limit; given = given; present = [] } }
+-- a restarted pad with this owner, these numbers, this log and these times
+abbrev pub bare : Option Owned → ℕ → ℕ → List Op → ℕ → List ℕ → Machine
+bare o replica limit log given times = record {
+  owned = o;
+  replica = replica;
+  log = log;
+  held = [];
+  presence = record { limit = limit; given = given; present = [] };
+  clock = 0;
+  times = times;
+}
 
 checked_at : (before log : List Op) (op : Op) (more : List Op) → Continues before (log ++ op ∷ more) →
     IsTrue (is_checked op) × IsTrue (is_valid op (before ++ log))
@@ -79,50 +92,77 @@ again_at log op more d =
     + 1) (next_at [] log op more d.numbered) in
     rw (checked, next) (not_refused log op (allowed_at log op more d))
 
--- a restarted pad delivers it
-one_again : (o : Option Owned) (replica limit : ℕ) (log : List Op) (given : ℕ) (op : Op) →
-    restore_refusal op log ≡ None →
-    replayed (Ok (bare o replica limit log given)) (Delivered op) ≡ Ok (bare o replica limit (log ++ op ∷ []) given)
-one_again o replica limit log given op e = ap (λ (d : Result (Unit {0}) Refusal × List Op). unless_refused (
-  d.0,
-  bare o replica limit d.1 given,
-)) again
+-- a restarted pad delivers it, at a time that is not before the last one
+one_again : (o : Option Owned) (replica limit : ℕ) (log : List Op) (given : ℕ) (times : List ℕ) (at : ℕ) (op : Op) →
+    time_now at times ≡ at → restore_refusal op log ≡ None →
+    replayed (Ok (bare o replica limit log given times)) (Delivered at op)
+    ≡ Ok (bare o replica limit (log ++ op ∷ []) given (times ++ at ∷ []))
+one_again o replica limit log given times at op late e =
+    ap (λ (d : Result (Unit {0}) Refusal × List Op). unless_refused (
+      d.0,
+      bare o replica limit d.1 given (timed at log d.1 times),
+    )) again
+    ∙ ap (λ ts. Ok (bare o replica limit (log ++ op ∷ []) given ts)) (timed_more at log (op ∷ []) times
+    ∙ ap (λ t. times ++ t ∷ []) late)
   where
     again : delivered_again op log ≡ (Ok tt, log ++ op ∷ [])
     again = rw e refl
 
+-- behind a time, the same one is not before the last
+still_late : (times : List ℕ) (at : ℕ) → time_now at (times ++ at ∷ []) ≡ at
+still_late times at = let last : last_time (times ++ at ∷ []) ≡ at = last_filled 0 times 0 at in omega (arith, last)
+
+one_more : (times : List ℕ) (at n : ℕ) → (times ++ at ∷ []) ++ replicate n at ≡ times ++ replicate (suc n) at
+one_more times at n = append_assoc times (at ∷ []) (replicate n at)
+
 -- a restarted pad delivers all of them
-pub all_again : (o : Option Owned) (replica limit : ℕ) (log more : List Op) (given : ℕ) → IsDelivered (log ++ more) →
-    replay_all (map Delivered more) (bare o replica limit log given) ≡ Ok (bare o replica limit (log ++ more) given)
-all_again o replica limit log [] given d = ap (λ (l : List Op). Ok (bare o replica limit l given)) (sym (append-nil log))
-all_again o replica limit log (op ∷ more) given d =
-    ap (λ (m : Result Machine Refusal). fold replayed m (map Delivered more))
-    (one_again o replica limit log given op (again_at log op more d))
-    ∙ (all_again o replica limit (log ++ op ∷ []) more given
+pub all_again : (o : Option Owned) (replica limit : ℕ) (log more : List Op) (given : ℕ) (times : List ℕ) (at : ℕ) →
+    time_now at times ≡ at → IsDelivered (log ++ more) →
+    replay_all (map (Delivered at) more) (bare o replica limit log given times)
+    ≡ Ok (bare o replica limit (log ++ more) given (times ++ replicate (length more) at))
+all_again o replica limit log [] given times at late d =
+    ap₂ (λ (l : List Op) (ts : List ℕ). Ok (bare o replica limit l given ts)) (sym (append-nil log)) (sym (append-nil times))
+all_again o replica limit log (op ∷ more) given times at late d =
+    ap (λ (m : Result Machine Refusal). fold replayed m (map (Delivered at) more))
+    (one_again o replica limit log given times at op late (again_at log op more d))
+    ∙ (all_again o replica limit (log ++ op ∷ []) more given (times ++ at ∷ []) at (still_late times at)
     (subst IsDelivered (sym (append_assoc log (op ∷ []) more)) d)
-    ∙ ap (λ (l : List Op). Ok (bare o replica limit l given)) (append_assoc log (op ∷ []) more))
+    ∙ ap₂ (λ (l : List Op) (ts : List ℕ). Ok (bare o replica limit l given ts)) (append_assoc log (op ∷ []) more)
+    (one_more times at (length more)))
 
 -- a restarted pad delivers only the first of them
-pub front_again : (o : Option Owned) (replica limit : ℕ) (log first rest : List Op) (given : ℕ) →
-    IsDelivered (log ++ (first ++ rest)) → replay_all (map Delivered first) (bare o replica limit log given)
-    ≡ Ok (bare o replica limit (log ++ first) given)
-front_again o replica limit log [] rest given d = ap (λ (l : List Op). Ok (bare o replica limit l given))
-    (sym (append-nil log))
-front_again o replica limit log (op ∷ first) rest given d =
-    ap (λ (m : Result Machine Refusal). fold replayed m (map Delivered first))
-    (one_again o replica limit log given op (again_at log op (first ++ rest) d))
-    ∙ (front_again o replica limit (log ++ op ∷ []) first rest given
+pub front_again : (o : Option Owned) (replica limit : ℕ) (log first rest : List Op) (given : ℕ) (times : List ℕ) (at : ℕ) →
+    time_now at times ≡ at → IsDelivered (log ++ (first ++ rest)) →
+    replay_all (map (Delivered at) first) (bare o replica limit log given times)
+    ≡ Ok (bare o replica limit (log ++ first) given (times ++ replicate (length first) at))
+front_again o replica limit log [] rest given times at late d =
+    ap₂ (λ (l : List Op) (ts : List ℕ). Ok (bare o replica limit l given ts)) (sym (append-nil log)) (sym (append-nil times))
+front_again o replica limit log (op ∷ first) rest given times at late d =
+    ap (λ (m : Result Machine Refusal). fold replayed m (map (Delivered at) first))
+    (one_again o replica limit log given times at op late (again_at log op (first ++ rest) d))
+    ∙ (front_again o replica limit (log ++ op ∷ []) first rest given (times ++ at ∷ []) at (still_late times at)
     (subst IsDelivered (sym (append_assoc log (op ∷ []) (first ++ rest))) d)
-    ∙ ap (λ (l : List Op). Ok (bare o replica limit l given)) (append_assoc log (op ∷ []) first))
+    ∙ ap₂ (λ (l : List Op) (ts : List ℕ). Ok (bare o replica limit l given ts)) (append_assoc log (op ∷ []) first)
+    (one_more times at (length first)))
 
--- if only the log and the present visits have changed
+-- the time of now is not before the last one
+pub now_late : (clock : ℕ) (times : List ℕ) → time_now (time_now clock times) times ≡ time_now clock times
+now_late clock times = omega arith
+
+-- if only the log, the times and the present visits have changed
 pub quiet : (old after : Machine) (more : List Op) → after.owned ≡ old.owned → after.replica ≡ old.replica →
-    after.presence.limit ≡ old.presence.limit → after.presence.given ≡ old.presence.given → after.log ≡ old.log ++ more →
-    IsDelivered after.log → replay_all (map Delivered more) (restarted old) ≡ Ok (restarted after)
-quiet old after more owned replica limit given grown d =
-    all_again old.owned old.replica old.presence.limit old.log more old.presence.given (subst IsDelivered grown d)
-    ∙ (ap (λ (l : List Op). Ok (bare old.owned old.replica old.presence.limit l old.presence.given)) (sym grown)
-    ∙ (ap (λ (o : Option Owned). Ok (bare o old.replica old.presence.limit after.log old.presence.given)) (sym owned)
-    ∙ (ap (λ (r : ℕ). Ok (bare after.owned r old.presence.limit after.log old.presence.given)) (sym replica)
-    ∙ (ap (λ (n : ℕ). Ok (bare after.owned after.replica n after.log old.presence.given)) (sym limit)
-    ∙ ap (λ (g : ℕ). Ok (bare after.owned after.replica after.presence.limit after.log g)) (sym given)))))
+    after.presence.limit ≡ old.presence.limit → after.presence.given ≡ old.presence.given → Times old after →
+    after.log ≡ old.log ++ more →
+    IsDelivered after.log → replay_all (map (Delivered (now_at old)) more) (restarted old) ≡ Ok (restarted after)
+quiet old after more owned replica limit given times grown d =
+    let later : old.times ++ replicate (length more) (now_at old) ≡ after.times =
+    sym (times ∙ ap (λ l. timed old.clock old.log l old.times) grown ∙ timed_more old.clock old.log more old.times) in
+    all_again old.owned old.replica old.presence.limit old.log more old.presence.given old.times (now_at old)
+    (now_late old.clock old.times) (subst IsDelivered grown d)
+    ∙ (ap₂ (λ (l : List Op) (ts : List ℕ). Ok (bare old.owned old.replica old.presence.limit l old.presence.given ts))
+    (sym grown) later
+    ∙ (ap (λ (o : Option Owned). Ok (bare o old.replica old.presence.limit after.log old.presence.given after.times))
+    (sym owned)
+    ∙ (ap (λ (r : ℕ). Ok (bare after.owned r old.presence.limit after.log old.presence.given after.times)) (sym replica)
+    ∙ (ap (λ (n : ℕ). Ok (bare after.owned after.replica n after.log old.presence.given after.times)) (sym limit)
+    ∙ ap (λ (g : ℕ). Ok (bare after.owned after.replica after.presence.limit after.log g after.times)) (sym given)))))

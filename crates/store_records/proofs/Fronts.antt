@@ -19,13 +19,15 @@ use Rattle.pad_core.specs.declared.act.Act.{Act}
 use Rattle.pad_core.specs.declared.act.Act.TheVariants as act
 use Rattle.pad_core.specs.declared.request.Request.{Request}
 use Rattle.pad_core.specs.declared.request.Request.TheVariants as request
-use Rattle.store_records.specs.Laws.{Had, Left, Life, restarted_by}
-use Rattle.store_records.specs.Laws.Had.{last, within, earlier, unended, before_start}
-use Rattle.store_records.specs.Laws.Life.{begins, asked, left, starts_again}
-use Rattle.store_records.specs.Records.{Answer, act_records, claim_records, rebuilt, records_of, replayed, unnamed}
+use Rattle.store_records.specs.Laws.{Had, Left, Life, grown_by, now_at, restarted_by}
+use Rattle.store_records.specs.Laws.Had.{last, within, earlier, unticked, unended, before_start}
+use Rattle.store_records.specs.Laws.Life.{begins, asked, ticked, left, starts_again}
+use Rattle.store_records.specs.Records.{Answer, act_records, claim_records, mark_records, rebuilt, records_of, replayed}
+use Rattle.store_records.specs.Records.{unnamed}
 use Rattle.store_records.specs.declared.kept_record.Record.{Record}
 use Rattle.store_records.specs.declared.kept_record.Record.TheVariants.{Delivered}
-use Rattle.store_records.proofs.Deliveries.{front_again}
+use Rattle.store_records.proofs.Deliveries.{bare, front_again, now_late}
+use Rattle.pad_core.proofs.Timed.{timed_more}
 use Rattle.store_records.proofs.Numbers.{any_numbers}
 use Rattle.store_records.proofs.Steps.{life_again}
 
@@ -35,27 +37,37 @@ Found replica present records m front = (had : Machine) × Had replica present r
     × ((number most : ℕ) → rebuilt number most front ≡ Ok (restarted_by number most had))
 
 -- at most one record, or one for each operation
-abbrev IsFew : List Record → List Op → Type 0
-IsFew records more = (length records ≤ 1) ⊎ (records ≡ map Delivered more)
+abbrev IsFew : ℕ → List Record → List Op → Type 0
+IsFew at records more = (length records ≤ 1) ⊎ (records ≡ map (Delivered at) more)
 
-few_of_claim : (w : Who) (name : List ℕ) (answer : Answer) (more : List Op) → IsFew (claim_records w name answer) more
-few_of_claim who.Nobody name answer more = inl (omega arith)
-few_of_claim (who.Peer number version) name answer more = inl (omega arith)
-few_of_claim (who.Author owner) name (Ok (Some reply)) more = inl (omega arith)
-few_of_claim (who.Author owner) name (Ok None) more = inl (omega arith)
-few_of_claim (who.Author owner) name (Err e) more = inl (omega arith)
+few_of_claim : (w : Who) (name : List ℕ) (at : ℕ) (answer : Answer) (more : List Op) → IsFew at (claim_records w name answer) more
+few_of_claim who.Nobody name at answer more = inl (omega arith)
+few_of_claim (who.Peer number version) name at answer more = inl (omega arith)
+few_of_claim (who.Author owner) name at (Ok (Some reply)) more = inl (omega arith)
+few_of_claim (who.Author owner) name at (Ok None) more = inl (omega arith)
+few_of_claim (who.Author owner) name at (Err e) more = inl (omega arith)
 
-few_of_act : (this : Act) (answer : Answer) (more : List Op) → IsFew (act_records this answer more) more
-few_of_act act.Join (Ok (Some reply)) more = inl (omega arith)
-few_of_act (act.Grant author right) (Ok (Some reply)) more = inl (omega arith)
-few_of_act other answer more = inr refl
+few_of_mark : (w : Who) (rev : ℕ) (text : List ℕ) (at : ℕ) (answer : Answer) → length (mark_records w rev text at answer) ≤ 1
+few_of_mark who.Nobody rev text at answer = omega arith
+few_of_mark (who.Peer number version) rev text at answer = omega arith
+few_of_mark (who.Author author) rev text at (Ok (Some reply)) = omega arith
+few_of_mark (who.Author author) rev text at (Ok None) = omega arith
+few_of_mark (who.Author author) rev text at (Err e) = omega arith
 
-few : (w : Who) (this : Request) (answer : Answer) (more : List Op) → IsFew (records_of w this answer more) more
-few w (request.On name this) answer more = few_of_act this answer more
-few w (request.Create name) answer more = few_of_claim w name answer more
-few w request.Pads answer more = inl (omega arith)
-few w (request.Hello name token) answer more = inl (omega arith)
-few w (request.Peer number token version) answer more = inl (omega arith)
+few_of_act : (w : Who) (this : Act) (at : ℕ) (answer : Answer) (more : List Op) → IsFew at (act_records w this at answer more) more
+few_of_act w act.Join at (Ok (Some reply)) more = inl (omega arith)
+few_of_act w (act.Grant grantee right) at (Ok (Some reply)) more = inl (omega arith)
+few_of_act w (act.Hand author) at (Ok (Some reply)) more = inl (omega arith)
+few_of_act w (act.Mark rev text) at answer more = inl (few_of_mark w rev text at answer)
+few_of_act w other at answer more = inr refl
+
+few : (w : Who) (this : Request) (at : ℕ) (answer : Answer) (more : List Op) → IsFew at (records_of w this at answer more) more
+few w (request.On name this) at answer more = few_of_act w this at answer more
+few w (request.Create name) at answer more = few_of_claim w name at answer more
+few w request.Pads at answer more = inl (omega arith)
+few w (request.People authors) at answer more = inl (omega arith)
+few w (request.Hello name token) at answer more = inl (omega arith)
+few w (request.Peer number token version) at answer more = inl (omega arith)
 
 whole : (replica present : ℕ) (records : List Record) (m : Machine) → Life replica present records m → Found replica present records m records
 whole replica present records m life = (
@@ -67,24 +79,27 @@ whole replica present records m life = (
 -- the operations that a request delivered first are delivered again
 part_again : (replica present : ℕ) (records : List Record) (old : Machine) (first rest : List Op) → Life replica present records old →
     IsDelivered (old.log ++ (first ++ rest)) →
-    rebuilt replica present (records ++ map Delivered first) ≡ Ok (restarted (record old { log = old.log ++ first }))
+    rebuilt replica present (records ++ map (Delivered (now_at old)) first) ≡ Ok (restarted (grown_by first old))
 part_again replica present records old first rest life d =
-    fold-append replayed (Ok (unnamed replica present)) records (map Delivered first)
-    ∙ (ap (λ (r : Result Machine Refusal). fold replayed r (map Delivered first)) (life_again replica present records old life)
-    ∙ front_again old.owned old.replica old.presence.limit old.log first rest old.presence.given d)
+    fold-append replayed (Ok (unnamed replica present)) records (map (Delivered (now_at old)) first)
+    ∙ (ap (λ (r : Result Machine Refusal). fold replayed r (map (Delivered (now_at old)) first)) (life_again replica present records old life)
+    ∙ front_again old.owned old.replica old.presence.limit old.log first rest old.presence.given old.times (now_at old)
+    (now_late old.clock old.times) d
+    ∙ ap (λ ts. Ok (bare old.owned old.replica old.presence.limit (old.log ++ first) old.presence.given ts))
+    (sym (timed_more old.clock old.log first old.times)))
 
 -- the records of a part of a request
 part : (replica present : ℕ) (records : List Record) (w : Who) (this : Request) (cell : ℕ) (rooms : List Room) (old : Machine)
     (answer : Answer) (new : List Room) (after : Machine) (more first rest : List Op) →
     first ++ rest ≡ more → Life replica present records old → Left w this cell rooms old answer new after more →
-    Found replica present (records ++ records_of w this answer more) after (records ++ map Delivered first)
+    Found replica present (records ++ records_of w this (now_at old) answer more) after (records ++ map (Delivered (now_at old)) first)
 part replica present records w this cell rooms old answer new after more first rest is life l =
-    subst (λ (all : List Op). Found replica present (records ++ records_of w this answer all) after
-    (records ++ map Delivered first)) is (
-      record old { log = old.log ++ first },
+    subst (λ (all : List Op). Found replica present (records ++ records_of w this (now_at old) answer all) after
+    (records ++ map (Delivered (now_at old)) first)) is (
+      grown_by first old,
       within replica present records w this cell rooms old answer new after first rest life
           parted,
-      any_numbers replica present (records ++ map Delivered first) (record old { log = old.log ++ first })
+      any_numbers replica present (records ++ map (Delivered (now_at old)) first) (grown_by first old)
           (part_again replica present records old first rest life delivered),
     )
   where
@@ -98,19 +113,19 @@ part replica present records w this cell rooms old answer new after more first r
 asked_front : (replica present : ℕ) (records : List Record) (w : Who) (this : Request) (cell : ℕ) (rooms : List Room)
     (old : Machine) (answer : Answer) (new : List Room) (after : Machine) (more : List Op) (n : ℕ) →
     Life replica present records old → Left w this cell rooms old answer new after more → 1 ≤ n →
-    Found replica present (records ++ records_of w this answer more) after (records ++ take n (records_of w this answer more))
-asked_front replica present records w this cell rooms old answer new after more n life l some = at (few w this answer more)
+    Found replica present (records ++ records_of w this (now_at old) answer more) after (records ++ take n (records_of w this (now_at old) answer more))
+asked_front replica present records w this cell rooms old answer new after more n life l some = at (few w this (now_at old) answer more)
   where
-    at : IsFew (records_of w this answer more) more → Found replica present (records ++ records_of w this answer more) after
-        (records ++ take n (records_of w this answer more))
+    at : IsFew (now_at old) (records_of w this (now_at old) answer more) more → Found replica present (records ++ records_of w this (now_at old) answer more) after
+        (records ++ take n (records_of w this (now_at old) answer more))
     at (inl one) =
-        subst (λ (rs : List Record). Found replica present (records ++ records_of w this answer more) after (records ++ rs))
-        (sym (take_all n (records_of w this answer more) (omega arith)))
-        (whole replica present (records ++ records_of w this answer more) after
+        subst (λ (rs : List Record). Found replica present (records ++ records_of w this (now_at old) answer more) after (records ++ rs))
+        (sym (take_all n (records_of w this (now_at old) answer more) (omega arith)))
+        (whole replica present (records ++ records_of w this (now_at old) answer more) after
         (asked replica present records w this cell rooms old answer new after more life l))
     at (inr is) =
-        subst (λ (rs : List Record). Found replica present (records ++ records_of w this answer more) after (records ++ rs))
-        (sym (ap (take n) is ∙ take-map Delivered n more))
+        subst (λ (rs : List Record). Found replica present (records ++ records_of w this (now_at old) answer more) after (records ++ rs))
+        (sym (ap (take n) is ∙ take-map (Delivered (now_at old)) n more))
         (part replica present records w this cell rooms old answer new after more (take n more) (drop n more)
         (take-append-drop n more) life l)
 
@@ -124,22 +139,27 @@ front replica present records m count (asked same most before w this cell rooms 
     at : ((nat_le count (length before) ≡ true) × (count ≤ length before))
         ⊎ ((nat_le count (length before) ≡ false) × (length before < count)) →
         Found replica present before old (take count before) →
-        Found replica present (before ++ records_of w this answer more) after
-        (take count (before ++ records_of w this answer more))
+        Found replica present (before ++ records_of w this (now_at old) answer more) after
+        (take count (before ++ records_of w this (now_at old) answer more))
     at (inl (_, low)) (had, there, is) =
-        subst (Found replica present (before ++ records_of w this answer more) after)
-        (sym (take-append-le count before (records_of w this answer more) low))
+        subst (Found replica present (before ++ records_of w this (now_at old) answer more) after)
+        (sym (take-append-le count before (records_of w this (now_at old) answer more) low))
         (had, earlier replica present before w this cell rooms old answer new after more (take count before) had there l, is)
     at (inr (_, high)) found = past (count - length before) (omega arith) (omega arith)
       where
         past : (n : ℕ) → count ≡ length before + n → 1 ≤ n →
-            Found replica present (before ++ records_of w this answer more) after
-            (take count (before ++ records_of w this answer more))
+            Found replica present (before ++ records_of w this (now_at old) answer more) after
+            (take count (before ++ records_of w this (now_at old) answer more))
         past n is some =
-            subst (Found replica present (before ++ records_of w this answer more) after)
-            (sym (ap (λ k. take k (before ++ records_of w this answer more)) is
-            ∙ take-append-add before (records_of w this answer more) n))
+            subst (Found replica present (before ++ records_of w this (now_at old) answer more) after)
+            (sym (ap (λ k. take k (before ++ records_of w this (now_at old) answer more)) is
+            ∙ take-append-add before (records_of w this (now_at old) answer more) n))
             (asked_front replica present before w this cell rooms old answer new after more n life l some)
+front replica present records m count (ticked same most before clock old life) =
+    at (front replica present before old count life)
+  where
+    at : Found replica present before old (take count before) → Found replica present before m (take count before)
+    at (had, there, is) = (had, unticked replica present before clock old (take count before) had there, is)
 front replica present records m count (left same most before name w visit old life) = at (front replica present before old count life)
   where
     at : Found replica present before old (take count before) → Found replica present before m (take count before)

@@ -5,8 +5,9 @@ use Rattle.pad_model.specs.declared.who.Who.{Who}
 use Rattle.sessions.specs.Session.{IsNamed}
 use Rattle.sessions.specs.declared.session.Room.{Room}
 use Rattle.pad_core.specs.Delivered.{IsDelivered}
-use Rattle.pad_core.specs.Machine.{Machine, step}
+use Rattle.pad_core.specs.Machine.{Machine, step, tick}
 use Rattle.pad_core.specs.Restart.{restarted}
+use Rattle.pad_core.specs.Times.{time_now, timed}
 use Rattle.pad_core.specs.declared.act.Act.TheVariants.{Leave}
 use Rattle.pad_core.specs.declared.request.Request.{Request}
 use Rattle.server_core.specs.AtCell.{request_at}
@@ -28,6 +29,15 @@ pub record Left (who : Who) (request : Request) (cell : ℕ) (rooms : List Room)
   pub delivered : IsDelivered after.log
   pub grown : after.log ≡ old.log ++ more
 
+-- the time that an operation of a pad gets now
+abbrev pub now_at : Machine → ℕ
+now_at m = time_now m.clock m.times
+
+-- a pad that delivered operations, with the time of now
+abbrev pub grown_by : List Op → Machine → Machine
+grown_by more m =
+    record m { log = m.log ++ more; times = timed m.clock m.log (m.log ++ more) m.times }
+
 -- the records of a request are never refused, and lead from the restarted pad before it to the restarted pad after it,
 -- even if it was refused or out of memory, or a release was cut short
 abbrev pub StepsLaw : Type 0
@@ -36,7 +46,7 @@ StepsLaw =
     (new : List Room)
     (after : Machine) (more : List Op) →
     Left who request cell rooms old answer new after more
-    → replay_all (records_of who request answer more)
+    → replay_all (records_of who request (now_at old) answer more)
     (restarted old) ≡ Ok (restarted after)
 
 -- a request that may leave no records leaves none
@@ -46,7 +56,7 @@ IdleLaw =
     (new : List Room)
     (after : Machine) (more : List Op) →
     Left who request cell rooms old answer new after more → may_leave request ≡ false →
-    records_of who request answer more ≡ []
+    records_of who request (now_at old) answer more ≡ []
 
 -- the end of a visit leaves a restarted pad unchanged
 abbrev pub DeparturesLaw : Type 0
@@ -60,15 +70,17 @@ restarted_by number most m = record (restarted m)
     { replica = number; presence = record (restarted m).presence { limit = most } }
 
 -- the lives of a pad, by the numbers of its present server (its replica number and the most visits that may be present
--- at once), its records, and its state: requests and ends of visits, one after another, and starts of a server with any
--- numbers from some of the first records
+-- at once), its records, and its state: requests, the clock and ends of visits, one after another, and starts of a server
+-- with any numbers from some of the first records
 pub data Life : ℕ → ℕ → List Record → Machine → Type 0 where
   begins : (replica present : ℕ) → Life replica present [] (unnamed replica present)
   asked : (replica present : ℕ) (records : List Record) (who : Who) (request : Request) (cell : ℕ)
       (rooms : List Room)
       (old : Machine) (answer : Answer) (new : List Room) (after : Machine) (more : List Op) →
       Life replica present records old → Left who request cell rooms old answer new after more →
-      Life replica present (records ++ records_of who request answer more) after
+      Life replica present (records ++ records_of who request (now_at old) answer more) after
+  ticked : (replica present : ℕ) (records : List Record) (clock : ℕ) (m : Machine) →
+      Life replica present records m → Life replica present records (tick clock m)
   left : (replica present : ℕ) (records : List Record) (name : List ℕ) (who : Who) (visit : ℕ)
       (m : Machine) →
       Life replica present records m → Life replica present records
@@ -95,8 +107,8 @@ pub data Had : ℕ → ℕ → List Record → Machine → List Record → Machi
       (old : Machine) (answer : Answer) (new : List Room) (after : Machine) (first rest : List Op) →
       Life replica present records old → Left who request cell rooms old answer new after
       (first ++ rest) →
-      Had replica present (records ++ records_of who request answer (first ++ rest)) after
-      (records ++ map Delivered first) (record old { log = old.log ++ first })
+      Had replica present (records ++ records_of who request (now_at old) answer (first ++ rest)) after
+      (records ++ map (Delivered (now_at old)) first) (grown_by first old)
   earlier : (replica present : ℕ) (records : List Record) (who : Who) (request : Request) (cell : ℕ)
       (rooms : List Room)
       (old : Machine) (answer : Answer) (new : List Room) (after : Machine) (more : List Op)
@@ -104,7 +116,11 @@ pub data Had : ℕ → ℕ → List Record → Machine → List Record → Machi
       (m : Machine) →
       Had replica present records old before m
       → Left who request cell rooms old answer new after more →
-      Had replica present (records ++ records_of who request answer more) after before m
+      Had replica present (records ++ records_of who request (now_at old) answer more) after before m
+  unticked : (replica present : ℕ) (records : List Record) (clock : ℕ) (old : Machine)
+      (before : List Record) (m : Machine) →
+      Had replica present records old before m →
+      Had replica present records (tick clock old) before m
   unended : (replica present : ℕ) (records : List Record) (name : List ℕ) (who : Who) (visit : ℕ)
       (old : Machine)
       (before : List Record) (m : Machine) →

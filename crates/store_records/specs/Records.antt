@@ -5,21 +5,24 @@ use Rattle.pad_model.specs.declared.refusal.Refusal.{Refusal}
 use Rattle.pad_model.specs.declared.who.Who.{Who}
 use Rattle.pad_model.specs.declared.who.Who.TheVariants.{Author}
 use Rattle.pad_core.specs.Machine.{Machine, nobody_present}
-use Rattle.pad_core.specs.Restart.{restore_claim, restore_grant, restore_operation, restore_visit}
+use Rattle.pad_core.specs.Restart.{restore_claim, restore_grant, restore_hand, restore_mark, restore_operation}
+use Rattle.pad_core.specs.Restart.{restore_visit}
 use Rattle.pad_core.specs.declared.act.Act.{Act}
 use Rattle.pad_core.specs.declared.act.Act.TheVariants as act
 use Rattle.pad_core.specs.declared.reply.Reply.{Reply}
 use Rattle.pad_core.specs.declared.request.Request.{Request}
 use Rattle.pad_core.specs.declared.request.Request.TheVariants as request
 use Rattle.store_records.specs.declared.kept_record.Record.{Record}
-use Rattle.store_records.specs.declared.kept_record.Record.TheVariants.{Named, Granted, Visited, Delivered}
+use Rattle.store_records.specs.declared.kept_record.Record.TheVariants.{Named, Granted, Handed, Marked, Visited, Delivered}
 
 -- a record is applied to a pad
 abbrev pub replay : Record → Machine → Result (Unit {0}) Refusal × Machine
 replay (Named name owner) m = restore_claim name owner m
-replay (Granted author right) m = restore_grant author right m
+replay (Granted grantee right) m = restore_grant grantee right m
+replay (Handed author) m = restore_hand author m
+replay (Marked named) m = restore_mark named m
 replay Visited m = restore_visit m
-replay (Delivered op) m = restore_operation op m
+replay (Delivered at op) m = restore_operation op at m
 
 -- the pad after a record, unless it was refused
 abbrev pub unless_refused : Result (Unit {0}) Refusal × Machine → Result Machine Refusal
@@ -43,6 +46,8 @@ unnamed replica present = record {
   log = [];
   held = [];
   presence = nobody_present present;
+  clock = 0;
+  times = [];
 }
 
 -- the pad that records lead to from an unnamed pad
@@ -58,14 +63,28 @@ abbrev pub claim_records : Who → List ℕ → Answer → List Record
 claim_records (Author owner) name (Ok (Some reply)) = Named name owner ∷ []
 claim_records who name answer = []
 
--- the records of an act: a visit after a join, a right after a grant, and otherwise the operations that were delivered
-abbrev pub act_records : Act → Answer → List Op → List Record
-act_records act.Join (Ok (Some reply)) more = Visited ∷ []
-act_records (act.Grant author right) (Ok (Some reply)) more = Granted author right ∷ []
-act_records other answer more = map Delivered more
+-- the record of a revision that an author named at a time
+abbrev pub mark_records : Who → ℕ → List ℕ → ℕ → Answer → List Record
+mark_records (Author author) rev text at (Ok (Some reply)) = Marked (record {
+  rev = rev;
+  author = author;
+  at = at;
+  text = text;
+}) ∷ []
+mark_records who rev text at answer = []
 
--- the records of a request at a cell, by its answer and the operations that it delivered
-abbrev pub records_of : Who → Request → Answer → List Op → List Record
-records_of who (request.Create name) answer more = claim_records who name answer
-records_of who (request.On name act) answer more = act_records act answer more
-records_of who other answer more = []
+-- the records of an act: a visit after a join, a right after a grant, an owner after a hand-over, a name of a revision,
+-- and otherwise the operations that were delivered, at the time that they had
+abbrev pub act_records : Who → Act → ℕ → Answer → List Op → List Record
+act_records who act.Join at (Ok (Some reply)) more = Visited ∷ []
+act_records who (act.Grant grantee right) at (Ok (Some reply)) more = Granted grantee right ∷ []
+act_records who (act.Hand author) at (Ok (Some reply)) more = Handed author ∷ []
+act_records who (act.Mark rev text) at answer more = mark_records who rev text at answer
+act_records who other at answer more = map (Delivered at) more
+
+-- the records of a request at a cell, by the time that operations had then, its answer, and the operations that it
+-- delivered
+abbrev pub records_of : Who → Request → ℕ → Answer → List Op → List Record
+records_of who (request.Create name) at answer more = claim_records who name answer
+records_of who (request.On name act) at answer more = act_records who act at answer more
+records_of who other at answer more = []

@@ -15,9 +15,11 @@ pub fn replay<S: Sequence>(alloc: Global, pad: &mut Pad<S>, kept: Record) -> Res
 {
     match kept {
         Record::Named { name, owner } => pad.restore_claim(alloc, &name, &owner),
-        Record::Granted { author, right } => pad.restore_grant(&author, right),
+        Record::Granted { grantee, right } => pad.restore_grant(&grantee, right),
+        Record::Handed { author } => pad.restore_hand(&author),
+        Record::Marked { named } => pad.restore_mark(&named),
         Record::Visited => pad.restore_visit(alloc),
-        Record::Delivered { op } => pad.restore_operation(alloc, op),
+        Record::Delivered { at, op } => pad.restore_operation(alloc, op, at),
     }
 }
 

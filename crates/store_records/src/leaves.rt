@@ -13,7 +13,8 @@ pub fn leaves_records(request: &Request) -> bool
     match request {
         Request::Create { .. } => true,
         Request::On { act, .. } => is_kept(act),
-        Request::Hello { .. } | Request::Peer { .. } | Request::Pads => false,
+        Request::Hello { .. } | Request::Peer { .. } | Request::Pads | Request::People { .. } =>
+            false,
     }
 }
 
@@ -23,6 +24,8 @@ fn is_kept(act: &Act) -> bool
     match act {
         Act::Join
         | Act::Grant { .. }
+        | Act::Hand { .. }
+        | Act::Mark { .. }
         | Act::Insert { .. }
         | Act::Delete { .. }
         | Act::Edit { .. }

@@ -1,29 +1,34 @@
 //! The records that a request at a cell leaves.
 ghost use Rattle.std.specs.Prelude.{◌≡◌, [], ◌∷◌, IfOk, map};
-ghost use Rattle.store_records.specs.Records.{act_records, claim_records};
+ghost use Rattle.store_records.specs.Records.{act_records, claim_records, mark_records};
 ghost use Rattle.store_records.specs.Records as records_spec;
 ghost use Rattle.store_records.specs.declared.kept_record.Record.TheVariants as variant;
 
 use crate::kept_record::Record;
+use named_revisions::NamedRevision;
 use pad_core::{Act, Reply, Request};
-use pad_model::{Name, Op, Refusal, Who};
+use pad_model::{Name, Op, Refusal, Text, Who};
 use std::alloc::{AllocError, Global};
 
-/// Returns the records of a request at a cell, given its answer and the operations that it delivered.
+/// Returns the records of a request at a cell, given the time that operations had then, its answer, and the operations
+/// that it delivered.
 pub fn records_of(
     alloc: Global,
     who: &Who,
     request: &Request,
+    at: u64,
     answer: &Result<Option<Reply>, Refusal>,
     more: &[Op],
 ) -> Result<Vec<Record>, AllocError>
     ensures { IfOk result (λ records. records.items
-        ≡ records_spec.records_of who.now request.now answer.now more.now) }
+        ≡ records_spec.records_of who.now request.now at answer.now more.now) }
 {
     match request {
         Request::Create { pad } => records_of_claim(alloc, who, pad, answer),
-        Request::On { act, .. } => records_of_act(alloc, act, answer, more),
-        Request::Hello { .. } | Request::Peer { .. } | Request::Pads => Ok(Vec::new(alloc)),
+        Request::On { act, .. } => records_of_act(alloc, who, act, at, answer, more),
+        Request::Hello { .. } | Request::Peer { .. } | Request::Pads | Request::People { .. } => Ok(
+            Vec::new(alloc),
+        ),
     }
 }
 
@@ -47,23 +52,55 @@ fn records_of_claim(
 
 fn records_of_act(
     alloc: Global,
+    who: &Who,
     act: &Act,
+    at: u64,
     answer: &Result<Option<Reply>, Refusal>,
     more: &[Op],
 ) -> Result<Vec<Record>, AllocError>
-    ensures { IfOk result (λ records. records.items ≡ act_records act.now answer.now more.now) }
+    ensures { IfOk result (λ records. records.items ≡ act_records who.now act.now at answer.now more.now) }
 {
     match (act, answer) {
         (Act::Join, Ok(Some(_))) => one(alloc, Record::Visited),
-        (Act::Grant { author, right }, Ok(Some(_))) => one(
+        (Act::Grant { grantee, right }, Ok(Some(_))) => one(
             alloc,
             Record::Granted {
-                author: author.clone()?,
+                grantee: grantee.clone()?,
                 right: *right,
             },
         ),
-        _ => delivered(alloc, more),
+        (Act::Hand { author }, Ok(Some(_))) => one(
+            alloc,
+            Record::Handed {
+                author: author.clone()?,
+            },
+        ),
+        (Act::Mark { rev, text }, _) => records_of_mark(alloc, who, *rev, text, at, answer),
+        _ => delivered(alloc, at, more),
     }
+}
+
+fn records_of_mark(
+    alloc: Global,
+    who: &Who,
+    rev: u64,
+    text: &Text,
+    at: u64,
+    answer: &Result<Option<Reply>, Refusal>,
+) -> Result<Vec<Record>, AllocError>
+    ensures { IfOk result (λ records. records.items
+        ≡ mark_records who.now rev text.now at answer.now) }
+{
+    let (Who::Author(author), Ok(Some(_))) = (who, answer) else {
+        return Ok(Vec::new(alloc));
+    };
+    let named = NamedRevision {
+        rev,
+        author: author.clone()?,
+        at,
+        text: text.clone()?,
+    };
+    one(alloc, Record::Marked { named })
 }
 
 fn one(alloc: Global, kept: Record) -> Result<Vec<Record>, AllocError>
@@ -74,12 +111,13 @@ fn one(alloc: Global, kept: Record) -> Result<Vec<Record>, AllocError>
     Ok(records)
 }
 
-fn delivered(alloc: Global, more: &[Op]) -> Result<Vec<Record>, AllocError>
-    ensures { IfOk result (λ records. records.items ≡ map variant.Delivered more.now) }
+fn delivered(alloc: Global, at: u64, more: &[Op]) -> Result<Vec<Record>, AllocError>
+    ensures { IfOk result (λ records. records.items ≡ map (variant.Delivered at) more.now) }
 {
     let mut records = Vec::new(alloc);
     for op in more {
-        records.push(Record::Delivered { op: op.clone()? })?;
+        let op = op.clone()?;
+        records.push(Record::Delivered { at, op })?;
     }
     Ok(records)
 }

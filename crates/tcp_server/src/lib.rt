@@ -7,9 +7,12 @@
 mod entrance;
 mod listen;
 mod listeners;
+mod numbers_page;
 mod opened;
+mod other_threads;
 mod pad_gate;
 mod room;
+mod sender;
 mod serving_error;
 mod settings;
 mod settling;
@@ -19,6 +22,7 @@ mod status_answer;
 mod status_board;
 mod status_thread;
 mod threads;
+mod users;
 mod watch;
 
 pub use listen::serve_clients;

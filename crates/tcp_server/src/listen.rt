@@ -3,26 +3,24 @@ ghost use Rattle.std.specs.Prelude.{◌≡◌, ◌≤◌, [], None, IfOk};
 ghost use Rattle.server_core.specs.declared.limits.TheConstants.{MAX_CELLS};
 
 use crate::listeners::listen_at;
+use crate::numbers_page::with_numbers;
 use crate::opened::{Opened, open_pads};
+use crate::other_threads::{Ends, start_exchange, start_help, start_sending, start_status};
 use crate::pad_gate::PadGate;
+use crate::sender::sender_of;
 use crate::serving_error::ServingError;
 use crate::settings::{Settings, StandbyPeer};
-use crate::settling::{Settling, tell_workers};
-use crate::status::answer_status;
+use crate::settling::Settling;
 use crate::status_board::StatusBoard;
-use crate::status_thread::{StatusThread, end_status, open_door};
+use crate::status_thread::{StatusThread, open_door};
 use crate::threads::{make_groups, make_threads};
+use crate::users::{proxies_of, users_of};
 use crate::watch::{Watch, watch_accounts};
 use block_seq::BlockSeq;
 use conversation::PadTable;
 use event_loop::{Acceptor, Hub, Limits, Service, SetUp, Worker, accept_all, serve_all};
-use group_commit::Confirm;
-use log::info;
-use peering::{Bell, Exchange, Group, Guard, exchange_all};
+use peering::{Group, Guard};
 use server_counts::Build;
-use server_log::ServerLog;
-use sessions::Peer;
-use standby::{SendingEnd, send_copies};
 use std::alloc::{AllocError, Global};
 use std::fs::File;
 use std::net::{Net, TcpListener, TcpStream};
@@ -31,11 +29,7 @@ use std::sync::Wait;
 use std::thread;
 use std::thread::Threads;
 use std::time::Clock;
-use store_files::{Keeper, KeptFiles};
-use web_wire::{Page, Site};
-
-/// Threads that help to sync the files of many pads. They wait for the disk, so there are more of them than processors.
-const SYNCERS: u32 = 12;
+use web_wire::{Page, Site, UserHeader};
 
 /// Serves connections at an address, and browsers at another one if the settings say so, until as many connections have
 /// ended as the settings say. Each address is printed with its real port. The path is that of the accounts file. With a
@@ -61,7 +55,7 @@ where
 {
     let (watching, reading) = (files.clone()?, files.clone()?);
     let (opened, bytes) = open_pads(rt, files, asked, path)?;
-    let watch = Watch::new(watching, path, bytes);
+    let watch = Watch::new(watching, path, bytes, asked.any_user);
     let board = StatusBoard::new(reading, build, opened.keeper.as_ref());
     let has_stopped = serve_opened(rt, &opened, asked, address, pages, watch, &board)?;
     match asked.standby {
@@ -95,20 +89,21 @@ where
         + Sync
         + Eprint,
 {
+    let parts = site_parts(rt.alloc(), asked, pages, opened)?;
+    let named = opened.named_pads(rt)?;
     let mut listeners = listen_at(rt, asked, address)?;
     let (door, status_end) = open_door(rt, listeners.status.take())?;
-    let made = make_threads(rt, opened, asked, listeners)?;
-    let origins = origins_of(rt.alloc(), asked)?;
-    let site = Site {
-        pages,
-        origins: origins.as_slice(),
-    };
     let SetUp {
         hub,
         acceptor,
         workers,
-    } = made;
-    hub.counts().pads.set(opened.named_pads(rt)?);
+    } = make_threads(rt, opened, asked, listeners)?;
+    hub.counts().pads.set(named);
+    let site = Site {
+        pages: parts.pages.as_slice(),
+        origins: parts.origins.as_slice(),
+        users: users_in(&parts),
+    };
     let status = StatusThread {
         board,
         door,
@@ -118,6 +113,40 @@ where
         rt, opened, &hub, asked, site, acceptor, workers, watch, status,
     )?;
     Ok(hub.has_stopped())
+}
+
+/// What a site lends to the workers.
+#[derive(Drop)]
+struct SiteParts {
+    pages: Vec<Page>,
+    origins: Vec<String>,
+    user_header: Option<String>,
+    proxies: Vec<u128>,
+}
+
+/// What the site of a server is made of: its pages with that of its numbers, and what the settings say.
+fn site_parts(
+    alloc: Global,
+    asked: Settings<'_>,
+    pages: &[Page],
+    opened: &Opened,
+) -> Result<SiteParts, AllocError> {
+    let user_header = match asked.user_header {
+        Some(name) => Some(String::from_str(alloc, name)?),
+        None => None,
+    };
+    Ok(SiteParts {
+        pages: with_numbers(alloc, pages, opened.numbers.as_slice())?,
+        origins: origins_of(alloc, asked)?,
+        user_header,
+        proxies: proxies_of(alloc, asked)?,
+    })
+}
+
+/// How the proxies of these parts name users, if the settings say how.
+fn users_in<'a>(parts: &'a SiteParts) -> Option<UserHeader<'a>> {
+    let name = parts.user_header.as_ref()?;
+    Some(users_of(name.as_str(), parts.proxies.as_slice()))
 }
 
 /// Serves connections with the pads of a row.
@@ -163,14 +192,19 @@ where
         settle: &settle,
         site,
     };
-    let others = Others {
+    let sender = sender_of(opened, asked);
+    let ends = Ends {
         exchange: &opened.exchange,
-        groups,
         guard,
+        bell: &opened.end,
+        sender: sender.as_ref(),
+        status: status.end,
+    };
+    let others = Others {
+        groups,
         watch,
-        end: &opened.end,
-        sender: sender_of(opened, asked),
         status,
+        ends,
     };
     serve(&service, acceptor, workers, others)
 }
@@ -199,103 +233,13 @@ fn origins_of(alloc: Global, asked: Settings<'_>) -> Result<Vec<String>, AllocEr
     Ok(origins)
 }
 
-/// What the threads that serve no connection have: those that exchange with peers, and the one that watches the
-/// accounts file.
+/// The threads that serve no connection, before they start, and what ends them.
 #[derive(Drop)]
-struct Others<'a, 'e, R> {
-    exchange: &'a Exchange,
+struct Others<'a, 'b, 'e, R> {
     groups: Vec<Group<'a, R>>,
-    guard: Guard<'a>,
     watch: Watch<'a>,
-    /// Rung when the server ends.
-    end: &'a Bell,
-    /// What is sent to the standby, if there is one.
-    sender: Option<Sender<'a>>,
     status: StatusThread<'a, 'e>,
-}
-
-/// What is sent to the standby, and to whom.
-#[derive(Drop)]
-struct Sender<'a> {
-    keeper: &'a Keeper,
-    peer: &'a Peer,
-    own: u16,
-    /// What replies wait for.
-    confirm: Confirm,
-    end: SendingEnd,
-}
-
-/// What is sent to the standby of the settings; None: there is none, or no store.
-fn sender_of<'a>(opened: &'a Opened, asked: Settings<'_>) -> Option<Sender<'a>> {
-    let standby = asked.standby?;
-    Some(Sender {
-        keeper: opened.keeper.as_ref()?,
-        peer: opened.peer(standby.number)?,
-        own: asked.replica,
-        confirm: standby.confirm,
-        end: SendingEnd::new(),
-    })
-}
-
-impl Sender<'_> {
-    // Waits until the standby has everything, where nobody is to be served before. Returns whether the server may serve.
-    fn wait<R: Wait + Clock + Eprint>(&self, rt: &R) -> bool {
-        if self.confirm == Confirm::Strict {
-            let number = self.peer.number;
-            info!(ServerLog(rt); "nobody is served before the standby {number} has everything that is stored here");
-        }
-        self.keeper.wait_for_copy(rt)
-    }
-
-    // Sends to the standby until it is ended. If the standby is lost meanwhile, the whole server is stopped.
-    fn send<R>(&self, rt: &R, hub: &Hub)
-    where
-        R: AllocGlobal + Net<Listener = TcpListener, Stream = TcpStream> + Clock + Wait + Eprint,
-    {
-        send_copies(
-            rt,
-            KeptFiles::new(self.keeper),
-            self.peer,
-            self.own,
-            &self.end,
-        );
-        if self.keeper.has_failed() {
-            hub.stop();
-        }
-    }
-}
-
-/// Exchanges with peers until the server ends. If the store fails meanwhile, the whole server is stopped.
-fn exchange_or_stop<'a, R>(
-    row: &PadTable<'a, BlockSeq, R, PadGate<'_, R>>,
-    exchange: &Exchange,
-    group: Group<'a, R>,
-    guard: Guard<'a>,
-    hub: &Hub,
-)
-where
-    R: AllocGlobal + Net<Listener = TcpListener, Stream = TcpStream> + Clock + Wait + Eprint,
-{
-    exchange_all(row, exchange, group, guard);
-    if guard.has_failed() {
-        hub.stop();
-    }
-}
-
-/// Ends the thread that sends to the standby: after one more round, or at once.
-fn end_sending<R: Wait>(rt: &R, sender: Option<&Sender<'_>>, at_once: bool) {
-    match sender {
-        Some(sender) if at_once => sender.end.break_off(rt),
-        Some(sender) => sender.end.end(rt),
-        None => {}
-    }
-}
-
-/// Ends the threads that help to sync files.
-fn end_help<R: Wait>(rt: &R, guard: Guard<'_>) {
-    if let Some(keeper) = guard.keeper {
-        keeper.end_help(rt);
-    }
+    ends: Ends<'b, 'e>,
 }
 
 /// Accepts connections in one thread, and serves them in the workers' threads. Others exchange with the peers, and once more after
@@ -304,7 +248,7 @@ fn serve<R>(
     service: &Service<'_, BlockSeq, R, PadGate<'_, R>, Settling<'_, R>>,
     acceptor: Acceptor,
     mut workers: Vec<Worker>,
-    others: Others<'_, '_, R>,
+    others: Others<'_, '_, '_, R>,
 ) -> Result<(), ServingError<'static>>
 where
     R: AllocGlobal
@@ -318,73 +262,36 @@ where
     let (row, hub, limits) = (service.row, service.hub, service.limits);
     let rt = row.rt;
     let Others {
-        exchange,
         groups,
-        guard,
         watch,
-        end,
-        sender,
         status,
+        ends,
     } = others;
-    let sender = sender.as_ref();
-    let StatusThread {
-        board,
-        door,
-        end: status_end,
-    } = status;
+    let (board, bell) = (status.board, ends.bell);
     thread::scope(thread::scope_env(), rt, |scope| {
-        let mut threads = 0u64;
-        let mut is_whole = true;
-        if let Some(keeper) = guard.keeper {
-            for _ in 0..SYNCERS {
-                let _helps = scope.spawn(move || keeper.help(rt));
-            }
-        }
-        board.set_waiting(sender.is_some_and(|sender| sender.confirm == Confirm::Strict));
-        if let (Some(door), Some(status_end)) = (door, status_end) {
-            let answering = scope.spawn(move || answer_status(rt, door, status_end, hub, board));
-            is_whole &= answering.is_ok();
-        }
+        start_help(scope, rt, ends.guard);
+        let mut is_whole = start_status(scope, rt, hub, status);
         // With a standby that is never to lack anything, nobody is served before it has everything, peers neither.
-        if let Some(sender) = sender {
-            let keeper = sender.keeper;
-            if scope.spawn(move || sender.send(rt, hub)).is_err()
-                || scope.spawn(move || tell_workers(rt, keeper, hub)).is_err()
-            {
+        if let Some(sender) = ends.sender {
+            board.set_waiting(sender.is_strict());
+            if !start_sending(scope, rt, hub, sender) {
                 is_whole = false;
             } else if !sender.wait(rt) {
                 hub.stop();
             }
+            board.set_waiting(false);
         }
-        board.set_waiting(false);
-        for group in groups {
-            match scope.spawn(move || exchange_or_stop(row, exchange, group, guard, hub)) {
-                Ok(_) => threads = threads.saturating_add(1),
-                Err(_) => is_whole = false,
-            }
-        }
-        let watching = scope.spawn(move || watch_accounts(rt, hub, watch, end));
+        let (threads, are_all) = start_exchange(scope, row, ends.exchange, groups, ends.guard, hub);
+        let watching = scope.spawn(move || watch_accounts(rt, hub, watch, bell));
         let accepting = scope.spawn(move || accept_all(rt, acceptor, hub, limits));
-        if !is_whole || watching.is_err() || accepting.is_err() {
-            end.ring_last(rt);
+        if !is_whole || !are_all || watching.is_err() || accepting.is_err() {
             hub.stop();
-            guard.end(rt);
-            exchange.ring(rt);
-            end_sending(rt, sender, true);
-            end_help(rt, guard);
-            end_status(status_end);
+            ends.end_at_once(rt);
             return Err(ServingError::NoThread);
         }
         serve_all(service, workers.as_mut_slice());
         board.set_ending();
-        end.ring_last(rt);
-        if hub.has_stopped() {
-            guard.end(rt);
-        }
-        exchange.finish(rt, threads, guard);
-        end_sending(rt, sender, hub.has_stopped());
-        end_help(rt, guard);
-        end_status(status_end);
+        ends.end(rt, hub, threads);
         Ok(())
     })
 }

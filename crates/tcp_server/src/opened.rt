@@ -25,6 +25,8 @@ pub struct Opened {
     pub cells: Vec<SharedPad<BlockSeq>>,
     pub names: Names,
     pub revisions: Vec<u64>,
+    /// The numbers that the server had before, by the files of its store.
+    pub numbers: Vec<u16>,
     pub keeper: Option<Keeper>,
     pub accounts: Accounts,
     /// What the threads that exchange with peers share, and the means to stop them.
@@ -83,6 +85,7 @@ where
     requires { (1 ≤ asked.replica) × (asked.cells ≤ MAX_CELLS) }
 {
     let (accounts, bytes) = read_accounts(rt, path)?;
+    let accounts = accounts.with_any_user(asked.any_user);
     warn_of_tokens(rt, path, bytes.as_slice());
     if let Some(StandbyPeer { number, .. }) = asked.standby {
         if !accounts.peers().iter().any(|peer| peer.number == number) {
@@ -103,23 +106,18 @@ where
         )?;
         let mut revisions = Vec::new(rt.alloc());
         revisions.resize(cells.len(), 0)?;
-        let opened = open_row_of(rt, cells, revisions, None, accounts)?;
+        let opened = open_row_of(rt, cells, revisions, Vec::new(rt.alloc()), None, accounts)?;
         return Ok((opened, bytes));
     };
     let owner = Owner::new(asked.replica, asked.new_replica, asked.present);
+    let confirm = asked.standby.map(|standby| standby.confirm);
     let Stored {
         cells,
         revisions,
+        numbers,
         keeper,
-    } = restore(
-        rt,
-        files,
-        folder,
-        &owner,
-        size,
-        asked.standby.map(|standby| standby.confirm),
-    )?;
-    let opened = open_row_of(rt, cells, revisions, Some(keeper), accounts)?;
+    } = restore(rt, files, folder, &owner, size, confirm)?;
+    let opened = open_row_of(rt, cells, revisions, numbers, Some(keeper), accounts)?;
     Ok((opened, bytes))
 }
 
@@ -128,19 +126,44 @@ fn open_row_of<R: AllocGlobal + Wait>(
     rt: &R,
     cells: Vec<SharedPad<BlockSeq>>,
     revisions: Vec<u64>,
+    numbers: Vec<u16>,
     keeper: Option<Keeper>,
     accounts: Accounts,
 ) -> Result<Opened, Refusal> {
-    let alloc = rt.alloc();
-    let peers = accounts.peers().len();
+    let shared = shared_parts(rt, cells.as_slice(), accounts.peers().len())?;
     Ok(Opened {
-        names: Names::fill(rt, alloc, cells.as_slice())?,
+        cells,
+        names: shared.names,
+        revisions,
+        numbers,
+        keeper,
+        accounts,
+        exchange: shared.exchange,
+        stop: shared.stop,
+        end: shared.end,
+    })
+}
+
+// What the threads of a server share beside its pads.
+#[derive(Drop)]
+struct SharedParts {
+    names: Names,
+    exchange: Exchange,
+    stop: Stop,
+    end: Bell,
+}
+
+// What the threads of a server with these pads and so many peers share beside the pads.
+fn shared_parts<R: AllocGlobal + Wait>(
+    rt: &R,
+    cells: &[SharedPad<BlockSeq>],
+    peers: usize,
+) -> Result<SharedParts, Refusal> {
+    let alloc = rt.alloc();
+    Ok(SharedParts {
+        names: Names::fill(rt, alloc, cells)?,
         exchange: Exchange::new(alloc, peers, cells.len())?,
         stop: Stop::new(alloc, peers)?,
         end: Bell::new(alloc, 0)?,
-        cells,
-        revisions,
-        keeper,
-        accounts,
     })
 }

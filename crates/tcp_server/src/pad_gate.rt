@@ -11,6 +11,7 @@ use peering::Exchange;
 use shared_pads::{Answered, LockedPad};
 use std::alloc::Global;
 use std::sync::Wait;
+use std::time::{Clock, SystemTime, UNIX_EPOCH};
 use store_files::Keeper;
 
 /// Wakes the threads that exchange with peers before each reply that reports a delivered operation. Under the pad's
@@ -40,7 +41,7 @@ impl<'a, R> PadGate<'a, R> {
     }
 }
 
-impl<R: Wait> Gate for PadGate<'_, R> {
+impl<R: Wait + Clock> Gate for PadGate<'_, R> {
     ghost reads = { λ gate. is_some gate.keeper };
 
     ghost told = { λ _ _ _ _. ⊤ };
@@ -63,6 +64,16 @@ impl<R: Wait> Gate for PadGate<'_, R> {
             self.hub.counts().pads.add_one();
             self.exchange.note(answered.cell);
             self.exchange.ring(self.rt);
+        }
+    }
+
+    fn clock(&self) -> u64 {
+        let Ok(now) = SystemTime::now(self.rt) else {
+            return 0;
+        };
+        match now.duration_since(UNIX_EPOCH) {
+            Ok(passed) => u64::try_from(passed.as_millis()).unwrap_or(0),
+            Err(_) => 0,
         }
     }
 

@@ -2,7 +2,7 @@
 use group_commit::Confirm;
 
 /// The peer that has a copy of the store.
-#[derive(Clone, Copy, Debug, PartialEq, Eq)]
+#[derive(Clone, Copy)]
 pub struct StandbyPeer {
     /// Its number in the accounts file.
     pub number: u16,
@@ -41,6 +41,12 @@ pub struct Settings<'a> {
     pub web: Option<&'a str>,
     /// The origins whose pages may connect besides the server's own, separated by commas.
     pub web_origins: Option<&'a str>,
+    /// The field by which a proxy names the user of a request for the page or its socket. None: it names none.
+    pub user_header: Option<&'a str>,
+    /// The addresses of the proxies from which that field is taken, separated by commas. None: 127.0.0.1 alone.
+    pub trusted_proxies: Option<&'a str>,
+    /// Whether any user whom a proxy names is an author, also one who has no line in the accounts file.
+    pub any_user: bool,
     /// The address where operators ask for the status.
     pub status: Option<&'a str>,
 }

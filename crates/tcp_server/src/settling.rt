@@ -7,7 +7,7 @@ use event_loop::{Hub, Reach, Settle};
 use std::io;
 use std::sync::Wait;
 use std::time::Clock;
-use store_files::{Keeper, Settlement};
+use store_files::{Keeper, Promised};
 use web_wire::Machines;
 
 /// What the workers' replies wait for, if there is a store: its sync, and the standby's confirmation where that was
@@ -26,7 +26,7 @@ impl<'a, R> Settling<'a, R> {
 }
 
 impl<R: Wait + Clock> Settle for Settling<'_, R> {
-    type Settled = Settlement;
+    type Settled = Option<Promised>;
 
     fn settle(&self) -> io::Result<u64> {
         match self.keeper {
@@ -35,11 +35,20 @@ impl<R: Wait + Clock> Settle for Settling<'_, R> {
         }
     }
 
-    fn reach(&self, number: u64) -> io::Result<Option<Reach<Settlement>>>
-        ensures { IfOk result (λ found. IfSome found (λ reach. IsSaidOf self.now.keeper reach.settled.kept reach.number)) }
+    fn reach(&self, number: u64) -> io::Result<Option<Reach<Option<Promised>>>>
+        ensures { IfOk result (λ found. IfSome found (λ reach. IsSaidOf self.now.keeper reach.settled reach.number)) }
     {
-        match Settlement::look(self.rt, self.keeper, number)? {
-            Some((settled, number)) => Ok(Some(Reach { number, settled })),
+        let Some(keeper) = self.keeper else {
+            return Ok(Some(Reach {
+                number,
+                settled: None,
+            }));
+        };
+        match keeper.look(self.rt, number)? {
+            Some(promised) => Ok(Some(Reach {
+                number: promised.number(),
+                settled: Some(promised),
+            })),
             None => Ok(None),
         }
     }

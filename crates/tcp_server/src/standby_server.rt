@@ -86,7 +86,7 @@ where
 }
 
 // Why no more copies are taken.
-#[derive(Debug, Drop)]
+#[derive(Drop)]
 enum CopyingEnd {
     Promoted,
     StoreFailed(io::Error),

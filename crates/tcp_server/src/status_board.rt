@@ -28,7 +28,7 @@ pub struct StatusBoard<'a> {
 }
 
 /// Whether a server serves.
-#[derive(Clone, Copy, Debug, PartialEq, Eq)]
+#[derive(Clone, Copy, PartialEq, Eq)]
 pub enum Health {
     Serves,
     StoreFailed,
@@ -116,6 +116,7 @@ impl<'a> StatusBoard<'a> {
                 pads: counts.pads.read(),
                 requests: counts.requests(),
                 operations: counts.operations.read(),
+                visits: counts.visits.read(),
                 refusals: counts.refusals().list(alloc)?,
             },
             store: match self.keeper {

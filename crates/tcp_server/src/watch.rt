@@ -1,12 +1,16 @@
 //! The accounts file of a server that runs. It is read again when it has changed.
+ghost use Rattle.std.specs.Prelude.{◌≡◌, Ok, IfOk};
+ghost use Rattle.std.specs.Arc.{arc_value};
+ghost use Rattle.sessions.specs.Accounts.{Accounts, accounts_of};
+
 use accounts_file::{reason_of, warn_of_ports, warn_of_tokens};
 use event_loop::Hub;
 use log::{info, warn};
 use peering::Bell;
 use server_log::ServerLog;
 use sessions::{Accounts, AccountsError};
-use std::alloc::{AllocError, Global};
-use std::sync::Wait;
+use std::alloc::Global;
+use std::sync::{Arc, Wait};
 use std::time::Clock;
 use std::{fs, io};
 
@@ -20,17 +24,20 @@ pub struct Watch<'a> {
     files: HostRuntime,
     path: &'a str,
     bytes: Vec<u8>,
+    /// Whether any user of a proxy is an author.
+    any_user: bool,
     /// Whether it could not be read at the last check.
     is_unread: bool,
 }
 
 impl<'a> Watch<'a> {
     /// The state of a file that was read and had these bytes.
-    pub fn new(files: HostRuntime, path: &'a str, bytes: Vec<u8>) -> Watch<'a> {
+    pub fn new(files: HostRuntime, path: &'a str, bytes: Vec<u8>, any_user: bool) -> Watch<'a> {
         Watch {
             files,
             path,
             bytes,
+            any_user,
             is_unread: false,
         }
     }
@@ -49,13 +56,11 @@ impl<'a> Watch<'a> {
         if bytes.as_slice() == self.bytes.as_slice() {
             return;
         }
-        match copies_of(rt.alloc(), bytes.as_slice(), hub.workers()) {
-            Ok(copies) => {
-                if let Some(accounts) = copies.first() {
-                    warn_of_ports(rt, path, accounts);
-                }
+        match accounts_in(rt.alloc(), bytes.as_slice(), self.any_user) {
+            Ok(accounts) => {
+                warn_of_ports(rt, path, &accounts);
                 warn_of_tokens(rt, path, bytes.as_slice());
-                hub.replace_accounts(rt, copies);
+                hub.replace_accounts(rt, &accounts);
                 info!(ServerLog(rt); "the accounts file {path} has changed and was read again");
             }
             Err(AccountsError::BadLine { line, mistake }) => {
@@ -93,17 +98,18 @@ where
     }
 }
 
-// The accounts in a file's bytes, once for each worker.
-fn copies_of(alloc: Global, bytes: &[u8], workers: usize) -> Result<Vec<Accounts>, AccountsError> {
-    let mut copies = Vec::new(alloc);
-    for _ in 0..workers {
-        let accounts = Accounts::read(alloc, bytes)?;
-        add(&mut copies, accounts)?;
+// The accounts in a file's bytes, for all workers to share.
+fn accounts_in(
+    alloc: Global,
+    bytes: &[u8],
+    any_user: bool,
+) -> Result<Arc<Accounts, Global>, AccountsError>
+    ensures { IfOk result (λ shared. (read : Accounts) × (accounts_of bytes.now ≡ Ok read)
+        × (arc_value shared ≡ record read { any_user = any_user })) }
+{
+    let accounts = Accounts::read(alloc, bytes)?.with_any_user(any_user);
+    match Arc::new(alloc, accounts) {
+        Ok(shared) => Ok(shared),
+        Err(_) => Err(AccountsError::Memory),
     }
-    Ok(copies)
-}
-
-fn add(copies: &mut Vec<Accounts>, accounts: Accounts) -> Result<(), AllocError> {
-    copies.push(accounts)?;
-    Ok(())
 }

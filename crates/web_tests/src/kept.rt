@@ -31,12 +31,14 @@ fn the_number_of_machines_is_told(rt: HostRuntime) -> Result<(), Fail> {
     let site = Site {
         pages: &[],
         origins: &[],
+        users: None,
     };
+    let alloc = rt.alloc();
     for (machines, text) in TEXTS {
         let kept = kept_page(*machines);
-        let mut request = PageRequest::new(rt.alloc());
+        let mut request = PageRequest::new(alloc);
         request.feed(b"GET /kept?now HTTP/1.1\r\nHost: a\r\n\r\n")?;
-        assert!(rt; request.answer(site, &kept, true)? == Next::Close(200));
+        assert!(rt; request.answer(alloc, site, &kept, true, 1)? == Next::Close(200));
         assert!(rt; has(request.output(), text), "{text:?}");
         for part in PARTS {
             assert!(rt; has(request.output(), part), "{part:?}");

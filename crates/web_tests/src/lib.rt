@@ -11,3 +11,5 @@ mod limits;
 mod page_requests;
 #[cfg(test)]
 mod sent;
+#[cfg(test)]
+mod users;

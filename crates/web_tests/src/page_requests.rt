@@ -32,12 +32,13 @@ fn ask(
     let site = Site {
         pages: PAGES,
         origins,
+        users: None,
     };
     let mut request = PageRequest::new(alloc);
     let mut next = Next::Read;
     for part in bytes.chunks(piece.max(1)) {
         request.feed(part)?;
-        next = request.answer(site, &kept_page(Machines::One), has_room)?;
+        next = request.answer(alloc, site, &kept_page(Machines::One), has_room, 1)?;
         if next != Next::Read {
             break;
         }
@@ -362,11 +363,13 @@ fn frames_behind_a_handshake(rt: HostRuntime) -> Result<(), Fail> {
     let site = Site {
         pages: PAGES,
         origins: &[],
+        users: None,
     };
-    let mut request = PageRequest::new(rt.alloc());
+    let alloc = rt.alloc();
+    let mut request = PageRequest::new(alloc);
     request.feed(HANDSHAKE.as_bytes())?;
     request.feed(b"\r\n\x81\x82\0\0\0\0hi")?;
-    assert!(rt; request.answer(site, &kept_page(Machines::One), true)? == Next::Socket);
+    assert!(rt; request.answer(alloc, site, &kept_page(Machines::One), true, 1)? == Next::Socket);
     assert!(rt; request.into_parts().input.as_slice() == b"\x81\x82\0\0\0\0hi".as_slice());
     Ok(())
 }

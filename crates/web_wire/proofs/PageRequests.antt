@@ -14,13 +14,15 @@ use Rattle.httparse.specs.declared.spans.HeaderSpan.{HeaderSpan}
 use Rattle.httparse.specs.declared.spans.RequestSpans.{RequestSpans}
 use Rattle.websocket.specs.Handshake.{response_bytes}
 use Rattle.websocket.specs.Headers.{fields_of}
-use Rattle.web_wire.specs.PageRequests.{AsksPage, Exchange, Grows, HasReason, IfRefused, IsKnown, IsPlanned, KeepsPage, MayOpen, MayRefuse, asked, has_bytes, has_copy, is_reading, request_limits, OpensSocket, PutsPage, PutsRefusal, PutsUnchanged, PutsUnread, Responds, SendsStatus, ServesPage, TellsStatus, path_of}
+use Rattle.web_wire.specs.PageRequests.{AsksPage, AsksUser, Exchange, Grows, HasReason, IfRefused, IsKnown, IsPlanned, KeepsPage, MayOpen, MayRefuse, asked, has_bytes, has_copy, is_reading, request_limits, OpensSocket, PutsPage, PutsRefusal, PutsUnchanged, PutsUnread, Responds, SendsStatus, ServesPage, TellsStatus, path_of}
+use Rattle.web_wire.specs.Users.{may_name, user_of}
 use Rattle.web_wire.specs.declared.page.Page.{Page}
+use Rattle.web_wire.specs.declared.page.UserHeader.{UserHeader}
 use Rattle.web_wire.specs.declared.plan.Plan.{Plan}
 use Rattle.web_wire.specs.declared.plan.Plan.TheVariants as Planned
 use Rattle.web_wire.specs.declared.page_request.TheConstants.{MOST_FIELDS}
 use Rattle.web_wire.specs.declared.page_request.Next.{Next}
-use Rattle.web_wire.specs.declared.page_request.Next.TheVariants.{Close, Read, Socket}
+use Rattle.web_wire.specs.declared.page_request.Next.TheVariants.{Close, Read, Socket, User}
 
 -- a head followed by a text
 pub head_then_text : (old between new lead text : List ℕ) → between ≡ old ++ lead → new ≡ between ++ text
@@ -44,24 +46,24 @@ Settled old next Puts (Ok said) new =
     (new.input ≡ old.input) × (((said ≡ next) × Puts new.output) ⊎ ((said ≡ Close 500) × (new.output ≡ old.output)))
 
 settled : (next : Next) (Puts : List ℕ → Type 0) (len : ℕ) (old between new : Exchange) (put : Result (Unit {0}) WriteError)
-    (result : Result Next AllocError) → between.input ≡ old.input
+    (result : Result Next AllocError) → between ≡ record old { output = between.output }
     → OnOk put (Puts between.output) → Grows old.output between.output
     → OnOk put ((result ≡ Ok next) × (new ≡ between))
-    → OnErr put (new ≡ record { input = between.input; output = take len between.output }) → len ≡ length old.output
+    → OnErr put (new ≡ record between { output = take len between.output }) → len ≡ length old.output
     → OnErr put (IfOk result (λ said. said ≡ Close 500)) → Settled old next Puts result new
 settled next Puts len old between new (Ok done) result same puts grows ok undone length_is failed =
-    rw (ok.0, ok.1) (same, inl (refl, puts))
+    rw (ok.0, ok.1) (ap (λ d. d.input) same, inl (refl, puts))
 settled next Puts len old between new (Err error) (Err refused) same puts grows ok undone length_is failed =
-    undone ∙ ap (λ o. record { input = between.input; output = o }) (ap (λ n. take n between.output) length_is ∙ taken_back old.output between.output grows)
-    ∙ ap (λ i. record { input = i; output = old.output }) same
+    undone ∙ ap (λ o. record between { output = o }) (ap (λ n. take n between.output) length_is ∙ taken_back old.output between.output grows)
+    ∙ ap (λ (d : Exchange). record d { output = old.output }) same
 settled next Puts len old between new (Err error) (Ok said) same puts grows ok undone length_is failed =
-    (ap (λ d. d.input) undone ∙ same, inr (failed, ap (λ d. d.output) undone ∙ ap (λ n. take n between.output) length_is ∙ taken_back old.output between.output grows))
+    (ap (λ d. d.input) undone ∙ ap (λ d. d.input) same, inr (failed, ap (λ d. d.output) undone ∙ ap (λ n. take n between.output) length_is ∙ taken_back old.output between.output grows))
 
 pub page_responds : (server : Server) (page : Bor Page) (whole : Bool) (len : ℕ) (old between new : Exchange) (put : Result (Unit {0}) WriteError)
-    (result : Result Next AllocError) → between.input ≡ old.input
+    (result : Result Next AllocError) → between ≡ record old { output = between.output }
     → OnOk put (PutsPage server page.now whole old.output between.output) → Grows old.output between.output
     → OnOk put ((result ≡ Ok (Close 200)) × (new ≡ between))
-    → OnErr put (new ≡ record { input = between.input; output = take len between.output }) → len ≡ length old.output
+    → OnErr put (new ≡ record between { output = take len between.output }) → len ≡ length old.output
     → OnErr put (IfOk result (λ said. said ≡ Close 500)) → Responds server (Planned.Page page whole) old result new
 page_responds server page whole len old between new put result same puts grows ok undone length_is failed =
     told result (settled (Close 200) (PutsPage server page.now whole old.output) len old between new put result same puts grows ok undone length_is failed)
@@ -71,6 +73,7 @@ page_responds server page whole len old between new put result same puts grows o
     told (Err error) left = left
     told (Ok Read) left = elim left.1 [ inl h ↦ let e = h.0 in cc e | inr h ↦ let e = h.0 in cc e ]
     told (Ok Socket) left = elim left.1 [ inl h ↦ let e = h.0 in cc e | inr h ↦ let e = h.0 in cc e ]
+    told (Ok User) left = elim left.1 [ inl h ↦ let e = h.0 in cc e | inr h ↦ let e = h.0 in cc e ]
     told (Ok (Close status)) left = (
       left.0,
       elim left.1 [
@@ -80,10 +83,10 @@ page_responds server page whole len old between new put result same puts grows o
     )
 
 pub unchanged_responds : (server : Server) (page : Bor Page) (len : ℕ) (old between new : Exchange) (put : Result (Unit {0}) WriteError)
-    (result : Result Next AllocError) → between.input ≡ old.input
+    (result : Result Next AllocError) → between ≡ record old { output = between.output }
     → OnOk put (PutsUnchanged server page.now old.output between.output) → Grows old.output between.output
     → OnOk put ((result ≡ Ok (Close 304)) × (new ≡ between))
-    → OnErr put (new ≡ record { input = between.input; output = take len between.output }) → len ≡ length old.output
+    → OnErr put (new ≡ record between { output = take len between.output }) → len ≡ length old.output
     → OnErr put (IfOk result (λ said. said ≡ Close 500)) → Responds server (Planned.Unchanged page) old result new
 unchanged_responds server page len old between new put result same puts grows ok undone length_is failed =
     told result (settled (Close 304) (PutsUnchanged server page.now old.output) len old between new put result same puts grows ok undone length_is failed)
@@ -93,6 +96,7 @@ unchanged_responds server page len old between new put result same puts grows ok
     told (Err error) left = left
     told (Ok Read) left = elim left.1 [ inl h ↦ let e = h.0 in cc e | inr h ↦ let e = h.0 in cc e ]
     told (Ok Socket) left = elim left.1 [ inl h ↦ let e = h.0 in cc e | inr h ↦ let e = h.0 in cc e ]
+    told (Ok User) left = elim left.1 [ inl h ↦ let e = h.0 in cc e | inr h ↦ let e = h.0 in cc e ]
     told (Ok (Close status)) left = (
       left.0,
       elim left.1 [
@@ -102,10 +106,10 @@ unchanged_responds server page len old between new put result same puts grows ok
     )
 
 pub refusal_responds : (server : Server) (code : ℕ) (whole : Bool) → 400 ≤ code → (len : ℕ) (old between new : Exchange) (put : Result (Unit {0}) WriteError)
-    (result : Result Next AllocError) → between.input ≡ old.input
+    (result : Result Next AllocError) → between ≡ record old { output = between.output }
     → OnOk put (PutsRefusal server code whole old.output between.output) → Grows old.output between.output
     → OnOk put ((result ≡ Ok (Close code)) × (new ≡ between))
-    → OnErr put (new ≡ record { input = between.input; output = take len between.output }) → len ≡ length old.output
+    → OnErr put (new ≡ record between { output = take len between.output }) → len ≡ length old.output
     → OnErr put (IfOk result (λ said. said ≡ Close 500)) → Responds server (Planned.Refused code whole) old result new
 refusal_responds server code whole high len old between new put result same puts grows ok undone length_is failed =
     told result (settled (Close code) (PutsRefusal server code whole old.output) len old between new put result same puts grows ok undone length_is failed)
@@ -115,16 +119,17 @@ refusal_responds server code whole high len old between new put result same puts
     told (Err error) left = left
     told (Ok Read) left = elim left.1 [ inl h ↦ let e = h.0 in cc e | inr h ↦ let e = h.0 in cc e ]
     told (Ok Socket) left = elim left.1 [ inl h ↦ let e = h.0 in cc e | inr h ↦ let e = h.0 in cc e ]
+    told (Ok User) left = elim left.1 [ inl h ↦ let e = h.0 in cc e | inr h ↦ let e = h.0 in cc e ]
     told (Ok (Close status)) left = elim left.1 [
       | inl h ↦ let e = h.0 in let is : status ≡ code = cc e in (left.0, omega (arith, is, high), inl (is, h.1))
       | inr h ↦ let e = h.0 in let is : status ≡ 500 = cc e in (left.0, omega (arith, is), inr (is, h.1))
     ]
 
 pub socket_responds : (server : Server) (key : List ℕ) (len : ℕ) (old between new : Exchange) (put : Result (Unit {0}) WriteError)
-    (result : Result Next AllocError) → between.input ≡ old.input
+    (result : Result Next AllocError) → between ≡ record old { output = between.output }
     → OnOk put (between.output ≡ old.output ++ response_bytes key []) → Grows old.output between.output
     → OnOk put ((result ≡ Ok Socket) × (new ≡ between))
-    → OnErr put (new ≡ record { input = between.input; output = take len between.output }) → len ≡ length old.output
+    → OnErr put (new ≡ record between { output = take len between.output }) → len ≡ length old.output
     → OnErr put (IfOk result (λ said. said ≡ Close 500)) → Responds server (Planned.Socket key) old result new
 socket_responds server key len old between new put result same puts grows ok undone length_is failed =
     told result (settled Socket (λ o. o ≡ old.output ++ response_bytes key []) len old between new put result same puts grows ok undone length_is failed)
@@ -134,34 +139,41 @@ socket_responds server key len old between new put result same puts grows ok und
     told (Err error) left = left
     told (Ok Read) left = elim left.1 [ inl h ↦ let e = h.0 in cc e | inr h ↦ let e = h.0 in cc e ]
     told (Ok Socket) left = elim left.1 [ inl h ↦ (left.0, h.1) | inr h ↦ let e = h.0 in cc e ]
+    told (Ok User) left = elim left.1 [ inl h ↦ let e = h.0 in cc e | inr h ↦ let e = h.0 in cc e ]
     told (Ok (Close status)) left = elim left.1 [
       | inl h ↦ let e = h.0 in cc e
       | inr h ↦ let e = h.0 in (left.0, cc e, h.1)
     ]
 
 -- the response is a socket only for a plan that is one
-socket_planned : (server : Server) (plan : Plan) (old between : Exchange) (pages : List Page) (origins : List (List ℕ)) (room body : Bool)
-    (method target : List ℕ) (minor : ℕ) (found : List (List ℕ × List ℕ))
-    → IsPlanned pages origins room body method target minor found plan → Responds server plan old (Ok Socket) between
+socket_planned : (server : Server) (plan : Plan) (old between : Exchange) (pages : List Page) (origins : List (List ℕ))
+    (room names body : Bool) (method target : List ℕ) (minor : ℕ) (found : List (List ℕ × List ℕ))
+    → IsPlanned pages origins room names body method target minor found plan → Responds server plan old (Ok Socket) between
     → (path_of target ≡ codes "/socket") × (room ≡ true)
     × ((answer : List ℕ) × MayOpen origins method minor found answer
-    × (between.output ≡ old.output ++ response_bytes answer []) × (between.input ≡ old.input) × (body ≡ false))
-socket_planned server (Planned.Page page whole) old between pages origins room body method target minor found planned responds = absurd responds
-socket_planned server (Planned.Unchanged page) old between pages origins room body method target minor found planned responds = absurd responds
-socket_planned server (Planned.Refused status whole) old between pages origins room body method target minor found planned responds = absurd responds
-socket_planned server (Planned.Socket key) old between pages origins room body method target minor found planned responds =
-    (planned.0, planned.1, (key, planned.2.0, responds.1, responds.0, planned.2.1))
+    × (between.output ≡ old.output ++ response_bytes answer []) × (between.input ≡ old.input) × (body ≡ false) × (names ≡ true))
+socket_planned server (Planned.Page page whole) old between pages origins room names body method target minor found planned responds = absurd responds
+socket_planned server (Planned.Unchanged page) old between pages origins room names body method target minor found planned responds = absurd responds
+socket_planned server Planned.User old between pages origins room names body method target minor found planned responds = absurd responds
+socket_planned server (Planned.Refused status whole) old between pages origins room names body method target minor found planned responds = absurd responds
+socket_planned server (Planned.Socket key) old between pages origins room names body method target minor found planned responds =
+    (planned.0, planned.1, (key, planned.2.0, responds.1, responds.0, planned.2.1, planned.2.2))
 
 pub socket_opens : (plan : Plan) (result : Result Next AllocError) (old between new : Exchange) (pages : List Page)
-    (origins : List (List ℕ)) (room : Bool) (next : Server) (spans : List HeaderSpan) (len : ℕ) (request : RequestSpans)
+    (origins : List (List ℕ)) (room : Bool) (users : Option UserHeader) (from : ℕ) (next : Server)
+    (spans : List HeaderSpan) (len : ℕ) (request : RequestSpans) (user : Option (List ℕ))
     → result ≡ Ok Socket → TakesHead (new_server request_limits) old.input spans next len request
-    → IsPlanned pages origins room (has_bytes (unread_size (reading next))) (span_bytes old.input request.method) (span_bytes old.input request.path)
+    → IsPlanned pages origins room (may_name users from (fields_of old.input (take request.headers spans)))
+    (has_bytes (unread_size (reading next))) (span_bytes old.input request.method) (span_bytes old.input request.path)
     request.version (fields_of old.input (take request.headers spans)) plan
-    → Responds next plan old result between → new ≡ record { input = drop len between.input; output = between.output }
-    → (room ≡ true) × OpensSocket origins old new
-socket_opens plan result old between new pages origins room next spans len request is takes planned responds goes =
+    → user ≡ user_of users (fields_of old.input (take request.headers spans))
+    → Responds next plan old result between
+    → new ≡ record { input = drop len between.input; output = between.output; user = user }
+    → (room ≡ true) × OpensSocket origins users from old new
+socket_opens plan result old between new pages origins room users from next spans len request user is takes planned whose responds goes =
     let found =
-    socket_planned next plan old between pages origins room (has_bytes (unread_size (reading next))) (span_bytes old.input request.method)
+    socket_planned next plan old between pages origins room (may_name users from (fields_of old.input (take request.headers spans)))
+    (has_bytes (unread_size (reading next))) (span_bytes old.input request.method)
     (span_bytes old.input request.path) request.version (fields_of old.input (take request.headers spans)) planned
     (rw is at responds) in
     let covered = takes.covered in (
@@ -176,37 +188,96 @@ socket_opens plan result old between new pages origins room next spans len reque
         answer = found.2.0;
         may = rw (sym covered.method, sym covered.version, sym covered.fields) found.2.1;
         sent = ap (λ d. d.output) goes ∙ found.2.2;
+        named = rw (sym covered.fields) found.2.5;
+        user = ap (λ d. d.user) goes ∙ whose ∙ ap (user_of users) covered.fields;
       },
     )
 
+-- the response is a question for the user only for a plan that is one
+user_planned : (server : Server) (plan : Plan) (old between : Exchange) (pages : List Page) (origins : List (List ℕ))
+    (room names body : Bool) (method target : List ℕ) (minor : ℕ) (found : List (List ℕ × List ℕ))
+    → IsPlanned pages origins room names body method target minor found plan → Responds server plan old (Ok User) between
+    → (path_of target ≡ codes "/me") × (bytes_eq method (codes "GET") ≡ true) × (body ≡ false) × (names ≡ true)
+    × (between ≡ old)
+user_planned server (Planned.Page page whole) old between pages origins room names body method target minor found planned responds = absurd responds
+user_planned server (Planned.Unchanged page) old between pages origins room names body method target minor found planned responds = absurd responds
+user_planned server (Planned.Socket key) old between pages origins room names body method target minor found planned responds = absurd responds
+user_planned server (Planned.Refused status whole) old between pages origins room names body method target minor found planned responds = absurd responds
+user_planned server Planned.User old between pages origins room names body method target minor found planned responds =
+    (planned.0, planned.1, planned.2, planned.3, responds)
+
+pub user_asked : (plan : Plan) (result : Result Next AllocError) (old between new : Exchange) (pages : List Page)
+    (origins : List (List ℕ)) (room : Bool) (users : Option UserHeader) (from : ℕ) (next : Server)
+    (spans : List HeaderSpan) (len : ℕ) (request : RequestSpans) (user : Option (List ℕ))
+    → result ≡ Ok User → TakesHead (new_server request_limits) old.input spans next len request
+    → IsPlanned pages origins room (may_name users from (fields_of old.input (take request.headers spans)))
+    (has_bytes (unread_size (reading next))) (span_bytes old.input request.method) (span_bytes old.input request.path)
+    request.version (fields_of old.input (take request.headers spans)) plan
+    → user ≡ user_of users (fields_of old.input (take request.headers spans))
+    → Responds next plan old result between
+    → new ≡ record { input = drop len between.input; output = between.output; user = user }
+    → AsksUser users from old new
+user_asked plan result old between new pages origins room users from next spans len request user is takes planned whose responds goes =
+    let found =
+    user_planned next plan old between pages origins room (may_name users from (fields_of old.input (take request.headers spans)))
+    (has_bytes (unread_size (reading next))) (span_bytes old.input request.method)
+    (span_bytes old.input request.path) request.version (fields_of old.input (take request.headers spans)) planned
+    (rw is at responds) in
+    let covered = takes.covered in
+    let rest = ap (λ d. d.input) goes ∙ ap (λ d. drop len d.input) found.4 in record {
+      head = takes.head;
+      reads = rw rest takes.accepts.reads;
+      path = ap path_of (sym covered.path) ∙ found.0;
+      gets = rw (sym covered.method) found.1;
+      framing = takes.framing;
+      accepts = rw rest takes.accepts;
+      bare = rw (ap reading (sym takes.next)) found.2;
+      same = ap (λ d. d.output) goes ∙ ap (λ d. d.output) found.4;
+      named = rw (sym covered.fields) found.3;
+      user = ap (λ d. d.user) goes ∙ whose ∙ ap (user_of users) covered.fields;
+    }
+
 -- the response is a refusal only for a plan that refuses, or because a page could not be sent
 refusal_planned : (server : Server) (plan : Plan) (old between : Exchange) (status : ℕ) (pages : List Page) (origins : List (List ℕ))
-    (room body : Bool) (method target : List ℕ) (minor : ℕ) (found : List (List ℕ × List ℕ))
-    → IsPlanned pages origins room body method target minor found plan → Responds server plan old (Ok (Close status)) between
+    (room names body : Bool) (method target : List ℕ) (minor : ℕ) (found : List (List ℕ × List ℕ))
+    → IsPlanned pages origins room names body method target minor found plan → Responds server plan old (Ok (Close status)) between
     → 400 ≤ status
-    → (between.input ≡ old.input) × ((status ≡ 500) ⊎ MayRefuse pages origins room body method target minor found)
-refusal_planned server (Planned.Page page whole) old between status pages origins room body method target minor found planned responds high =
+    → (between.input ≡ old.input) × ((status ≡ 500) ⊎ (MayRefuse pages origins room names body method target minor found
+    × (names ≡ false → status ≡ 403)))
+refusal_planned server (Planned.Page page whole) old between status pages origins room names body method target minor found planned responds high =
     (responds.0, elim responds.1 [ inl puts ↦ absurd (omega (arith, puts.0, high)) | inr is ↦ inl is.0 ])
-refusal_planned server (Planned.Unchanged page) old between status pages origins room body method target minor found planned responds high =
+refusal_planned server (Planned.Unchanged page) old between status pages origins room names body method target minor found planned responds high =
     (responds.0, elim responds.1 [ inl puts ↦ absurd (omega (arith, puts.0, high)) | inr is ↦ inl is.0 ])
-refusal_planned server (Planned.Socket key) old between status pages origins room body method target minor found planned responds high =
+refusal_planned server (Planned.Socket key) old between status pages origins room names body method target minor found planned responds high =
     (responds.0, inl responds.1)
-refusal_planned server (Planned.Refused code whole) old between status pages origins room body method target minor found planned responds high =
-    (responds.0, inr planned.1)
+refusal_planned server Planned.User old between status pages origins room names body method target minor found planned responds high =
+    absurd responds
+refusal_planned server (Planned.Refused code whole) old between status pages origins room names body method target minor found planned responds high = (
+  responds.0,
+  elim responds.2 [
+    | inl puts ↦ inr (planned.1.0, λ foreign. puts.0 ∙ planned.1.1 foreign)
+    | inr is ↦ inl is.0
+  ],
+)
 
 pub refusal_reason : (plan : Plan) (result : Result Next AllocError) (old between new : Exchange) (pages : List Page)
-    (origins : List (List ℕ)) (room : Bool) (next : Server) (spans : List HeaderSpan) (len : ℕ) (request : RequestSpans)
+    (origins : List (List ℕ)) (room : Bool) (users : Option UserHeader) (from : ℕ) (next : Server)
+    (spans : List HeaderSpan) (len : ℕ) (request : RequestSpans) (user : Option (List ℕ))
     → TakesHead (new_server request_limits) old.input spans next len request
-    → IsPlanned pages origins room (has_bytes (unread_size (reading next))) (span_bytes old.input request.method)
+    → IsPlanned pages origins room (may_name users from (fields_of old.input (take request.headers spans)))
+    (has_bytes (unread_size (reading next))) (span_bytes old.input request.method)
     (span_bytes old.input request.path) request.version (fields_of old.input (take request.headers spans)) plan
-    → Responds next plan old result between → new ≡ record { input = drop len between.input; output = between.output }
-    → IfRefused result (HasReason pages origins room old new)
-refusal_reason plan (Err error) old between new pages origins room next spans len request takes planned responds goes = tt
-refusal_reason plan (Ok Read) old between new pages origins room next spans len request takes planned responds goes = tt
-refusal_reason plan (Ok Socket) old between new pages origins room next spans len request takes planned responds goes = tt
-refusal_reason plan (Ok (Close status)) old between new pages origins room next spans len request takes planned responds goes = λ high.
+    → Responds next plan old result between
+    → new ≡ record { input = drop len between.input; output = between.output; user = user }
+    → IfRefused result (HasReason pages origins room users from old new)
+refusal_reason plan (Err error) old between new pages origins room users from next spans len request user takes planned responds goes = tt
+refusal_reason plan (Ok Read) old between new pages origins room users from next spans len request user takes planned responds goes = tt
+refusal_reason plan (Ok Socket) old between new pages origins room users from next spans len request user takes planned responds goes = tt
+refusal_reason plan (Ok User) old between new pages origins room users from next spans len request user takes planned responds goes = tt
+refusal_reason plan (Ok (Close status)) old between new pages origins room users from next spans len request user takes planned responds goes = λ high.
     let found =
-    refusal_planned next plan old between status pages origins room (has_bytes (unread_size (reading next)))
+    refusal_planned next plan old between status pages origins room
+    (may_name users from (fields_of old.input (take request.headers spans))) (has_bytes (unread_size (reading next)))
     (span_bytes old.input request.method) (span_bytes old.input request.path) request.version
     (fields_of old.input (take request.headers spans)) planned responds high in
     let covered = takes.covered in
@@ -216,28 +287,33 @@ refusal_reason plan (Ok (Close status)) old between new pages origins room next 
         head = takes.head;
         framing = takes.framing;
         accepts = rw (ap (λ d. d.input) goes ∙ ap (drop len) found.0) takes.accepts;
-        may = rw (sym covered.method, sym covered.path, sym covered.version, sym covered.fields, ap reading (sym takes.next)) may;
+        may = rw (sym covered.method, sym covered.path, sym covered.version, sym covered.fields, ap reading (sym takes.next)) may.0;
+        foreign = rw (sym covered.fields) may.1;
       }))
     ]
 
 -- bytes that cannot become a request are a reason
 pub unread_reason : (result : Result Next AllocError) (old new : Exchange) (pages : List Page) (origins : List (List ℕ))
-    (room : Bool) → HasNoHead request_limits old.input MOST_FIELDS → IfRefused result (HasReason pages origins room old new)
-unread_reason (Err error) old new pages origins room none = tt
-unread_reason (Ok Read) old new pages origins room none = tt
-unread_reason (Ok Socket) old new pages origins room none = tt
-unread_reason (Ok (Close status)) old new pages origins room none = λ high. inr (inl none)
+    (room : Bool) (users : Option UserHeader) (from : ℕ) → HasNoHead request_limits old.input MOST_FIELDS
+    → IfRefused result (HasReason pages origins room users from old new)
+unread_reason (Err error) old new pages origins room users from none = tt
+unread_reason (Ok Read) old new pages origins room users from none = tt
+unread_reason (Ok Socket) old new pages origins room users from none = tt
+unread_reason (Ok User) old new pages origins room users from none = tt
+unread_reason (Ok (Close status)) old new pages origins room users from none = λ high. inr (inl none)
 
 -- a response has a status that is known
 pub known_status : (server : Server) (plan : Plan) (next : Next) (old between : Exchange)
     → Responds server plan old (Ok next) between → IsKnown next
 known_status server plan Read old between responds = tt
 known_status server plan Socket old between responds = tt
+known_status server plan User old between responds = tt
 known_status server (Planned.Page page whole) (Close status) old between responds =
     elim responds.1 [ inl puts ↦ inl puts.0 | inr is ↦ let e = is.0 in inr (inr (omega arith)) ]
 known_status server (Planned.Unchanged page) (Close status) old between responds =
     elim responds.1 [ inl puts ↦ inr (inl puts.0) | inr is ↦ let e = is.0 in inr (inr (omega arith)) ]
 known_status server (Planned.Socket key) (Close status) old between responds = inr (inr (omega (arith, responds.1)))
+known_status server Planned.User (Close status) old between responds = absurd responds
 known_status server (Planned.Refused code whole) (Close status) old between responds = inr (inr responds.1)
 
 -- a status that refuses is that of the response
@@ -246,12 +322,14 @@ pub status_told : (server : Server) (plan : Plan) (result : Result Next AllocErr
 status_told server plan (Err error) old between new responds goes = tt
 status_told server plan (Ok Read) old between new responds goes = tt
 status_told server plan (Ok Socket) old between new responds goes = tt
+status_told server plan (Ok User) old between new responds goes = tt
 status_told server (Planned.Page page whole) (Ok (Close status)) old between new responds goes = λ high.
     elim responds.1 [ inl puts ↦ absurd (omega (arith, puts.0, high)) | inr is ↦ inr (is.0, goes ∙ is.1) ]
 status_told server (Planned.Unchanged page) (Ok (Close status)) old between new responds goes = λ high.
     elim responds.1 [ inl puts ↦ absurd (omega (arith, puts.0, high)) | inr is ↦ inr (is.0, goes ∙ is.1) ]
 status_told server (Planned.Socket key) (Ok (Close status)) old between new responds goes = λ high.
     inr (responds.1, goes ∙ responds.2)
+status_told server Planned.User (Ok (Close status)) old between new responds goes = absurd responds
 status_told server (Planned.Refused code whole) (Ok (Close status)) old between new responds goes = λ high.
     elim responds.2 [
       | inl puts ↦
@@ -265,9 +343,9 @@ status_told server (Planned.Refused code whole) (Ok (Close status)) old between 
 
 -- and so it is of bytes that cannot become a request
 pub unread_told : (put : Result (Unit {0}) WriteError) (result : Result Next AllocError) (status len : ℕ) (old between new : Exchange)
-    → between.input ≡ old.input → OnOk put (PutsUnread status old.output between.output) → Grows old.output between.output
+    → between ≡ record old { output = between.output } → OnOk put (PutsUnread status old.output between.output) → Grows old.output between.output
     → OnOk put ((result ≡ Ok (Close status)) × (new ≡ between))
-    → OnErr put (new ≡ record { input = between.input; output = take len between.output }) → len ≡ length old.output
+    → OnErr put (new ≡ record between { output = take len between.output }) → len ≡ length old.output
     → OnErr put (IfOk result (λ said. said ≡ Close 500)) → IfRefused result (TellsStatus old.output new.output)
 unread_told put result status len old between new same puts grows ok undone length_is failed =
     told result (settled (Close status) (PutsUnread status old.output) len old between new put result same puts grows ok undone length_is failed)
@@ -277,6 +355,7 @@ unread_told put result status len old between new same puts grows ok undone leng
     told (Err error) left = tt
     told (Ok Read) left = tt
     told (Ok Socket) left = tt
+    told (Ok User) left = tt
     told (Ok (Close code)) left = λ high. elim left.1 [
       | inl h ↦ let e = h.0 in let is : code ≡ status = cc e in
           inl (subst (λ n. SendsStatus n old.output new.output) (sym is) (1, h.1.0, h.1.1, h.1.2, h.1.3))
@@ -284,13 +363,16 @@ unread_told put result status len old between new same puts grows ok undone leng
     ]
 
 -- the request that was read asks for the page of the plan
-asks_page : (copied : Bool) (page : Page) (old between new : Exchange) (pages : List Page) (next : Server)
-    (spans : List HeaderSpan) (len : ℕ) (request : RequestSpans) → TakesHead (new_server request_limits) old.input spans next len request
+asks_page : (copied : Bool) (page : Page) (old between new : Exchange) (pages : List Page) (users : Option UserHeader) (from : ℕ)
+    (next : Server) (spans : List HeaderSpan) (len : ℕ) (request : RequestSpans) (user : Option (List ℕ))
+    → TakesHead (new_server request_limits) old.input spans next len request
     → Contains pages page → page.path.now ≡ path_of (span_bytes old.input request.path)
     → is_reading (span_bytes old.input request.method) ≡ true → has_bytes (unread_size (reading next)) ≡ false
-    → has_copy (fields_of old.input (take request.headers spans)) page ≡ copied → between.input ≡ old.input
-    → new ≡ record { input = drop len between.input; output = between.output } → AsksPage pages old new copied
-asks_page copied page old between new pages next spans len request takes there path reads bare named same goes =
+    → has_copy (fields_of old.input (take request.headers spans)) page ≡ copied
+    → may_name users from (fields_of old.input (take request.headers spans)) ≡ true → between.input ≡ old.input
+    → new ≡ record { input = drop len between.input; output = between.output; user = user }
+    → AsksPage pages users from old new copied
+asks_page copied page old between new pages users from next spans len request user takes there path reads bare tags named same goes =
     let covered = takes.covered in
     let rest = ap (λ d. d.input) goes ∙ ap (drop len) same in record {
       head = takes.head;
@@ -302,28 +384,33 @@ asks_page copied page old between new pages next spans len request takes there p
       page = page;
       there = there;
       path = path ∙ ap path_of covered.path;
-      copied_is = rw (sym covered.fields) named;
+      copied_is = rw (sym covered.fields) tags;
+      named = rw (sym covered.fields) named;
     }
 
 pub page_served : (plan : Plan) (result : Result Next AllocError) (old between new : Exchange) (pages : List Page)
-    (origins : List (List ℕ)) (room : Bool) (next : Server) (spans : List HeaderSpan) (len : ℕ) (request : RequestSpans)
+    (origins : List (List ℕ)) (room : Bool) (users : Option UserHeader) (from : ℕ) (next : Server)
+    (spans : List HeaderSpan) (len : ℕ) (request : RequestSpans) (user : Option (List ℕ))
     → result ≡ Ok (Close 200) → TakesHead (new_server request_limits) old.input spans next len request
-    → IsPlanned pages origins room (has_bytes (unread_size (reading next))) (span_bytes old.input request.method)
+    → IsPlanned pages origins room (may_name users from (fields_of old.input (take request.headers spans)))
+    (has_bytes (unread_size (reading next))) (span_bytes old.input request.method)
     (span_bytes old.input request.path) request.version (fields_of old.input (take request.headers spans)) plan
-    → Responds next plan old result between → new ≡ record { input = drop len between.input; output = between.output }
-    → ServesPage pages old new
+    → Responds next plan old result between
+    → new ≡ record { input = drop len between.input; output = between.output; user = user }
+    → ServesPage pages users from old new
 unfolding asks_page
-page_served plan result old between new pages origins room next spans len request is takes planned responds goes =
+page_served plan result old between new pages origins room users from next spans len request user is takes planned responds goes =
     found plan planned (rw is at responds)
   where
-    found : (plan : Plan) → IsPlanned pages origins room (has_bytes (unread_size (reading next)))
+    found : (plan : Plan) → IsPlanned pages origins room
+        (may_name users from (fields_of old.input (take request.headers spans))) (has_bytes (unread_size (reading next)))
         (span_bytes old.input request.method) (span_bytes old.input request.path) request.version
         (fields_of old.input (take request.headers spans)) plan → Responds next plan old (Ok (Close 200)) between
-        → ServesPage pages old new
+        → ServesPage pages users from old new
     found (Planned.Page page whole) planned responds = elim responds.1 [
       | inl puts ↦ record {
-        asks = asks_page false page.now old between new pages next spans len request takes planned.0 planned.1 planned.3 planned.4
-            planned.5 responds.0 goes;
+        asks = asks_page false page.now old between new pages users from next spans len request user takes planned.0 planned.1 planned.3 planned.4
+            planned.5 planned.6 responds.0 goes;
         sent = subst (λ o. PutsPage (asked takes.head takes.framing) page.now (bytes_eq takes.head.method (codes "GET")) old.output o)
             (sym (ap (λ d. d.output) goes))
             (subst (λ s. PutsPage s page.now (bytes_eq takes.head.method (codes "GET")) old.output between.output) takes.next
@@ -335,29 +422,34 @@ page_served plan result old between new pages origins room next spans len reques
     found (Planned.Unchanged page) planned responds =
         elim responds.1 [ inl puts ↦ absurd (omega (arith, puts.0)) | inr other ↦ absurd (omega (arith, other.0)) ]
     found (Planned.Socket key) planned responds = absurd (omega (arith, responds.1))
+    found Planned.User planned responds = absurd responds
     found (Planned.Refused code whole) planned responds = absurd (omega (arith, responds.1))
 
 pub page_kept : (plan : Plan) (result : Result Next AllocError) (old between new : Exchange) (pages : List Page)
-    (origins : List (List ℕ)) (room : Bool) (next : Server) (spans : List HeaderSpan) (len : ℕ) (request : RequestSpans)
+    (origins : List (List ℕ)) (room : Bool) (users : Option UserHeader) (from : ℕ) (next : Server)
+    (spans : List HeaderSpan) (len : ℕ) (request : RequestSpans) (user : Option (List ℕ))
     → result ≡ Ok (Close 304) → TakesHead (new_server request_limits) old.input spans next len request
-    → IsPlanned pages origins room (has_bytes (unread_size (reading next))) (span_bytes old.input request.method)
+    → IsPlanned pages origins room (may_name users from (fields_of old.input (take request.headers spans)))
+    (has_bytes (unread_size (reading next))) (span_bytes old.input request.method)
     (span_bytes old.input request.path) request.version (fields_of old.input (take request.headers spans)) plan
-    → Responds next plan old result between → new ≡ record { input = drop len between.input; output = between.output }
-    → KeepsPage pages old new
+    → Responds next plan old result between
+    → new ≡ record { input = drop len between.input; output = between.output; user = user }
+    → KeepsPage pages users from old new
 unfolding asks_page
-page_kept plan result old between new pages origins room next spans len request is takes planned responds goes =
+page_kept plan result old between new pages origins room users from next spans len request user is takes planned responds goes =
     found plan planned (rw is at responds)
   where
-    found : (plan : Plan) → IsPlanned pages origins room (has_bytes (unread_size (reading next)))
+    found : (plan : Plan) → IsPlanned pages origins room
+        (may_name users from (fields_of old.input (take request.headers spans))) (has_bytes (unread_size (reading next)))
         (span_bytes old.input request.method) (span_bytes old.input request.path) request.version
         (fields_of old.input (take request.headers spans)) plan → Responds next plan old (Ok (Close 304)) between
-        → KeepsPage pages old new
+        → KeepsPage pages users from old new
     found (Planned.Page page whole) planned responds =
         elim responds.1 [ inl puts ↦ absurd (omega (arith, puts.0)) | inr other ↦ absurd (omega (arith, other.0)) ]
     found (Planned.Unchanged page) planned responds = elim responds.1 [
       | inl puts ↦ record {
-        asks = asks_page true page.now old between new pages next spans len request takes planned.0 planned.1 planned.2 planned.3
-            planned.4 responds.0 goes;
+        asks = asks_page true page.now old between new pages users from next spans len request user takes planned.0 planned.1 planned.2 planned.3
+            planned.4 planned.5 responds.0 goes;
         sent = subst (λ o. PutsUnchanged (asked takes.head takes.framing) page.now old.output o)
             (sym (ap (λ d. d.output) goes))
             (subst (λ s. PutsUnchanged s page.now old.output between.output) takes.next puts.1);
@@ -365,6 +457,7 @@ page_kept plan result old between new pages origins room next spans len request 
       | inr other ↦ absurd (omega (arith, other.0))
     ]
     found (Planned.Socket key) planned responds = absurd (omega (arith, responds.1))
+    found Planned.User planned responds = absurd responds
     found (Planned.Refused code whole) planned responds = absurd (omega (arith, responds.1))
 
 -- a page that is found among some pages is found among these and one more

@@ -1,5 +1,6 @@
 -- The definitions that the contracts cite, by topic.
 pub mod Course
+pub mod Fields
 pub mod Front
 pub mod Kept
 pub mod Laws
@@ -7,4 +8,5 @@ pub mod Messages
 pub mod Socket
 pub mod PageRequests
 pub mod Tags
+pub mod Users
 pub mod Waiting

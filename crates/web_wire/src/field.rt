@@ -2,7 +2,7 @@
 ghost use Rattle.std.specs.Prelude.{◌≡◌, All, length, option_map};
 ghost use Rattle.httparse.specs.Spans.{IsHeaderWithin};
 ghost use Rattle.websocket.specs.Headers.{eq_ignore_case, fields_of, header_value};
-ghost use Rattle.web_wire.specs.PageRequests.{is_single};
+ghost use Rattle.web_wire.specs.Fields.{is_single};
 
 use httparse::spans::HeaderSpan;
 

@@ -30,7 +30,7 @@ pub enum NextMessage {
 }
 
 // The outcome of one frame.
-#[derive(Clone, Copy, Debug, PartialEq, Eq)]
+#[derive(Clone, Copy)]
 enum FrameStep {
     Waits,
     Quiet,

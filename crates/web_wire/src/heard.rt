@@ -7,7 +7,7 @@ use std::alloc::AllocError;
 use websocket::protocol::{CloseCode, Payload, Received};
 
 /// What a message means to a server of lines.
-#[derive(Clone, Copy, Debug, PartialEq, Eq)]
+#[derive(Clone, Copy)]
 pub(crate) enum Heard {
     /// No line: a fragment of a message, a ping or a pong.
     Nothing,

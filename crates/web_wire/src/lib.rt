@@ -19,9 +19,11 @@ mod page;
 mod page_request;
 mod plan;
 mod reply;
+mod user;
 
 pub use frames::{Frames, LONGEST_MESSAGE, NextMessage};
 pub use kept::{Machines, kept_page};
 pub use message::put_message;
-pub use page::{Page, Site};
+pub use page::{Page, Site, UserHeader};
 pub use page_request::{LONGEST_HEAD, Next, PageRequest, Parts};
+pub use user::address_number;

@@ -5,16 +5,21 @@ ghost use Rattle.httparse.specs.Spans.{IsHeaderWithin, IsRequestWithin, span_byt
 ghost use Rattle.websocket.specs.Headers.{fields_of};
 ghost use Rattle.web_wire.specs.PageRequests.{IfSocket, IsNoPage, IsPlanned, MayOpen, has_copy, has_page, is_query, path_of};
 ghost use Rattle.web_wire.specs.Tags.{is_tag, names_tag, strong, trimmed};
+ghost use Rattle.web_wire.specs.Users.{may_name};
 
 use crate::field::{field, is_single};
 use crate::origin::may_connect;
 use crate::page::{Page, Site};
+use crate::user::may_name;
 use httparse::spans::{HeaderSpan, RequestSpans};
 use websocket::handshake::HandshakeError;
 use websocket::handshake::server::check_request;
 
 // The path of the socket.
 const SOCKET: &[u8] = b"/socket";
+
+// The path of the question who the user is.
+const ME: &[u8] = b"/me";
 
 /// How a request is answered.
 #[derive(Clone, Copy)]
@@ -25,11 +30,13 @@ pub(crate) enum Plan<'a> {
     Unchanged(&'a Page),
     /// The socket, with the key that answers the client's.
     Socket([u8; 28]),
+    /// Who the user of the request is.
+    User,
     /// A refusal with this status: in words, or only its head.
     Refused(u16, bool),
 }
 
-/// How a request is answered.
+/// How a request from this address is answered.
 pub(crate) fn plan_of<'a>(
     input: &[u8],
     head: &RequestSpans,
@@ -38,15 +45,20 @@ pub(crate) fn plan_of<'a>(
     kept: &'a Page,
     has_body: bool,
     has_room: bool,
+    from: u128,
 ) -> Plan<'a>
     requires { IsRequestWithin input.now spans.now head.now }
     ensures { IsPlanned (kept.now ∷ site.entry.pages.now) (map string_bytes site.entry.origins.now) has_room
+        (may_name site.entry.users from (fields_of input.now (take head.now.headers spans.now)))
         has_body
         (span_bytes input.now head.now.method)
         (span_bytes input.now head.now.path) head.now.version
         (fields_of input.now (take head.now.headers spans.now)) result }
 {
     let method = head.method.of(input);
+    if !may_name(site.users, from, input, &spans[..head.headers]) {
+        return Plan::Refused(403, method != b"HEAD".as_slice());
+    }
     if method != b"GET".as_slice() && method != b"HEAD".as_slice() {
         return Plan::Refused(405, true);
     }
@@ -55,11 +67,14 @@ pub(crate) fn plan_of<'a>(
         return Plan::Refused(413, whole);
     }
     let path = path_of(head.path.of(input));
-    if path == SOCKET && !whole {
+    if (path == SOCKET || path == ME) && !whole {
         return Plan::Refused(400, whole);
     }
     if path == SOCKET {
         return socket_plan(input, head, spans, site.origins, has_room);
+    }
+    if path == ME {
+        return Plan::User;
     }
     let Some(page) = find_served(kept, site.pages, path) else {
         return Plan::Refused(404, whole);

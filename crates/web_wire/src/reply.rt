@@ -2,7 +2,7 @@
 ghost use Rattle.std.specs.Prelude.{◌≡◌, [], ◌++◌, OnOk, length};
 ghost use Rattle.websocket.specs.Handshake.{response_bytes};
 ghost use Rattle.http1.specs.Head.{pairs};
-ghost use Rattle.web_wire.specs.PageRequests.{Grows, PutsPage, PutsRefusal, PutsUnchanged, PutsUnread, page_fields};
+ghost use Rattle.web_wire.specs.PageRequests.{Grows, PutsUser, PutsPage, PutsRefusal, PutsUnchanged, PutsUnread, page_fields};
 
 use crate::page::Page;
 use http1::{BodySize, Header, Server, WriteError};
@@ -195,6 +195,59 @@ pub(crate) fn put_unread(output: &mut Vec<u8>, status: u16) -> Result<(), WriteE
         &[],
     )?;
     Ok(output.extend_from_slice(words(status))?)
+}
+
+// What the words say before the user who is no author, and between it and the reason.
+const LOGGED_IN_AS: &[u8] = b"You have logged in as \"";
+
+const BUT: &[u8] = b"\", but ";
+
+/// Appends a refusal of a request whose user is no author, with the reason in words. The response ends when the connection
+/// closes.
+pub(crate) fn put_stranger(output: &mut Vec<u8>, user: &[u8], why: &[u8]) -> Result<(), WriteError>
+    ensures ok { OnOk result (PutsUnread 403 output.old.items output.new.items) }
+    ensures grows { Grows output.old.items output.new.items }
+{
+    http1::head::write_response(output, 1, 403, reason(403), &refusal_fields(403), &[])?;
+    output.extend_from_slice(LOGGED_IN_AS)?;
+    output.extend_from_slice(user)?;
+    output.extend_from_slice(BUT)?;
+    Ok(output.extend_from_slice(why)?)
+}
+
+// The fields of the response that says who the user is.
+fn user_fields() -> [Header<'static>; 5] {
+    [
+        Header {
+            name: b"content-type",
+            value: b"application/json",
+        },
+        Header {
+            name: b"cache-control",
+            value: b"no-store",
+        },
+        Header {
+            name: b"x-content-type-options",
+            value: b"nosniff",
+        },
+        Header {
+            name: b"cross-origin-resource-policy",
+            value: b"same-origin",
+        },
+        Header {
+            name: b"connection",
+            value: b"close",
+        },
+    ]
+}
+
+/// Appends who the user of a request is, in this text of JSON. The response ends when the connection closes.
+pub(crate) fn put_user(output: &mut Vec<u8>, text: &[u8]) -> Result<(), WriteError>
+    ensures ok { OnOk result (PutsUser text.now output.old.items output.new.items) }
+    ensures grows { Grows output.old.items output.new.items }
+{
+    http1::head::write_response(output, 1, 200, b"OK", &user_fields(), &[])?;
+    Ok(output.extend_from_slice(text)?)
 }
 
 /// Appends the response that the connection is a socket from here on.

@@ -16,15 +16,16 @@ use Rattle.pad_model.specs.declared.op.Part.{Part}
 use Rattle.pad_model.specs.declared.op.Part.TheVariants as part
 use Rattle.pad_model.specs.declared.seen.Counted.{Counted}
 use Rattle.pad_model.specs.declared.who.Version.TheVariants as version
+use Rattle.pad_core.specs.declared.reply.LogEntry.{LogEntry}
 use Rattle.pad_core.specs.declared.reply.PadReply.{PadReply}
 use Rattle.pad_core.specs.declared.reply.PadReply.TheVariants as pad
 use Rattle.pad_core.specs.declared.reply.Reply.{Reply}
 use Rattle.pad_core.specs.declared.reply.Reply.TheVariants as reply
-use Rattle.wire_json.specs.Forms.{parent_data, span_data, counted_data}
+use Rattle.wire_json.specs.Forms.{number_data, parent_data, span_data, counted_data}
 use Rattle.wire_json.specs.Operations.{part_data, op_data}
 use Rattle.wire_json.specs.Peers.{peer_request, pull_request, vector_request, push_request}
 use Rattle.wire_json.specs.Requests.{op_of}
-use Rattle.wire_json.specs.Replies.{run_data, piece_data, shown_data, entry_data, present_data, grant_data, listed_data, pad_data}
+use Rattle.wire_json.specs.Replies.{run_data, piece_data, shown_data, entry_data, present_data, grant_data, mark_data, listed_data, person_data, pad_data}
 use Rattle.wire_json.specs.Replies.{outcome_data, reply_data}
 
 -- a value holds no float, and is nested at most this many levels deep
@@ -99,6 +100,10 @@ piece_of (piece.Keep n) = record { floatless = refl; shallow = lit≤ tt }
 piece_of (piece.Drop n) = record { floatless = refl; shallow = lit≤ tt }
 piece_of (piece.Insert author text) = record { floatless = refl; shallow = lit≤ tt }
 
+entry_of : (entry : LogEntry) (at : Option ℕ) → IsPlain 2 (entry_data (record entry { at = at }))
+entry_of entry None = record { floatless = refl; shallow = lit≤ tt }
+entry_of entry (Some at) = record { floatless = refl; shallow = lit≤ tt }
+
 -- a pad's reply: one with a list needs a line of its own, any other one is plain by computation
 pad_of : (said : PadReply) → IsPlain 7 (pad_data said)
 pad_of (pad.Runs now rev runs) =
@@ -111,13 +116,22 @@ pad_of (pad.Changes now rev to pieces notes) =
     let all = each_of piece_data 1 piece_of pieces in
     record { floatless = rw all.floatless refl; shallow = omega (arith, all.shallow) }
 pad_of (pad.Entries now entries) =
-    let all = each_of entry_data 2 (λ entry. record { floatless = refl; shallow = lit≤ tt }) entries in
+    let all = each_of entry_data 2 (λ entry. entry_of entry entry.at) entries in
+    record { floatless = rw all.floatless refl; shallow = omega (arith, all.shallow) }
+pad_of (pad.Times now times) =
+    let all = each_of number_data 0 (λ time. record { floatless = refl; shallow = lit≤ tt }) times in
+    record { floatless = rw all.floatless refl; shallow = omega (arith, all.shallow) }
+pad_of (pad.RevsAt now revs) =
+    let all = each_of number_data 0 (λ rev. record { floatless = refl; shallow = lit≤ tt }) revs in
     record { floatless = rw all.floatless refl; shallow = omega (arith, all.shallow) }
 pad_of (pad.Who now who) =
     let all = each_of present_data 1 (λ present. record { floatless = refl; shallow = lit≤ tt }) who in
     record { floatless = rw all.floatless refl; shallow = omega (arith, all.shallow) }
 pad_of (pad.Rights now rights) =
     let all = each_of grant_data 1 (λ grant. record { floatless = refl; shallow = lit≤ tt }) rights in
+    record { floatless = rw all.floatless refl; shallow = omega (arith, all.shallow) }
+pad_of (pad.Marks now marks) =
+    let all = each_of mark_data 1 (λ mark. record { floatless = refl; shallow = lit≤ tt }) marks in
     record { floatless = rw all.floatless refl; shallow = omega (arith, all.shallow) }
 pad_of (pad.Vector now seen) =
     let all = seen_of seen in
@@ -133,6 +147,9 @@ reply_of (reply.Peer replica version.Two) = record { floatless = refl; shallow =
 reply_of (reply.Pad said) = pad_of said
 reply_of (reply.Pads pads) =
     let all = each_of listed_data 1 (λ pad. record { floatless = refl; shallow = lit≤ tt }) pads in
+    record { floatless = rw all.floatless refl; shallow = omega (arith, all.shallow) }
+reply_of (reply.People people) =
+    let all = each_of person_data 1 (λ person. record { floatless = refl; shallow = lit≤ tt }) people in
     record { floatless = rw all.floatless refl; shallow = omega (arith, all.shallow) }
 reply_of other = record { floatless = refl; shallow = lit≤ tt }
 

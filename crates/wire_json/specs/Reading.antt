@@ -1,9 +1,9 @@
 -- How values are read: a form gives the meaning of each value that has the form, and nothing for other values.
-use Rattle.std.specs.Prelude.{◌≡◌, ◌⊎◌, ℕ, ◌==◌, nat_lt, nat_le, if◌then◌else◌, List, [], ◌∷◌, Option, Some, None}
+use Rattle.std.specs.Prelude.{◌≡◌, ◌⊎◌, ℕ, Bool, ◌==◌, nat_lt, nat_le, if◌then◌else◌, List, [], ◌∷◌, Option, Some, None}
 use Rattle.std.specs.Prelude.{option_map, option_and_then, is_some, Result, Err, MatchResult}
 use Rattle.std.specs.Str.{chars}
 use Rattle.serde_json.specs.Data.{Data, Items, no_items, item}
-use Rattle.serde_json.specs.Find.{get, as_number, as_u64, as_str, as_array, as_null}
+use Rattle.serde_json.specs.Find.{get, as_bool, as_number, as_u64, as_str, as_array, as_null}
 use Rattle.pad_model.specs.Checked.{is_within}
 use Rattle.pad_model.specs.Stamp.{Stamp}
 use Rattle.pad_model.specs.declared.limits.TheConstants.{MAX_COUNTER, MAX_REPLICA}
@@ -14,8 +14,9 @@ use Rattle.pad_model.specs.declared.refusal.Refusal.{Refusal}
 use Rattle.pad_model.specs.declared.refusal.Refusal.TheVariants.{NotRequest, Memory}
 use Rattle.pad_model.specs.declared.who.Version.{Version}
 use Rattle.pad_model.specs.declared.who.Version.TheVariants as version
+use Rattle.rights.specs.declared.grantee.Grantee.{Grantee}
 use Rattle.rights.specs.declared.right.Right.{Right}
-use Rattle.wire_json.specs.Words.{granted_by}
+use Rattle.wire_json.specs.Words.{granted_by, grantee_of}
 
 -- what is expected was read; or nothing is expected, and the result is NotRequest
 abbrev pub IsForm : {A : Type 0} → Option A → Result A Refusal → Type 0
@@ -116,6 +117,10 @@ positive_in d = option_and_then (λ n. if nat_le 1 n then Some n else None) (num
 abbrev pub within_in : ℕ → Data → Option ℕ
 within_in most d = option_and_then (λ n. if is_within n most then Some n else None) (number_in d)
 
+-- true or false
+abbrev pub truth_in : Data → Option Bool
+truth_in d = as_bool d
+
 -- a name or a token, as its bytes
 abbrev pub name_in : Data → Option (List ℕ)
 name_in d = as_str d
@@ -173,6 +178,10 @@ rising_in floor (item d ds) =
 -- a version vector
 abbrev pub seen_in : Data → Option (List Counted)
 seen_in d = option_and_then (rising_in 0) (as_array d)
+
+-- whom a right is granted to
+abbrev pub grantee_in : Data → Option Grantee
+grantee_in d = option_map grantee_of (name_in d)
 
 -- the right to grant, or nothing to revoke it
 abbrev pub right_in : Data → Option (Option Right)

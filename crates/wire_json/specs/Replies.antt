@@ -1,11 +1,12 @@
 -- How replies are written.
-use Rattle.std.specs.Prelude.{ℕ, List, [], ◌∷◌, ◌++◌, codes, true, false, Result, Ok, Err, ◌≡◌, ◌≤◌, Some}
+use Rattle.std.specs.Prelude.{ℕ, List, [], ◌∷◌, ◌++◌, codes, true, false, Result, Ok, Err, ◌≡◌, ◌≤◌, Option, Some, None}
 use Rattle.std.specs.List.{AllByRecursion}
 use Rattle.serde_json.specs.Data.{Data, boolean, string}
 use Rattle.serde_json.specs.Read.{read}
 use Rattle.serde_json.specs.Written.{compact_text}
 use Rattle.comments.specs.declared.show.Shown.{Shown}
 use Rattle.rights.specs.declared.book.Grant.{Grant}
+use Rattle.named_revisions.specs.declared.named_revision.NamedRevision.{NamedRevision}
 use Rattle.pad_model.specs.Refusals.{code_of, name_of}
 use Rattle.pad_model.specs.declared.piece.Piece.{Piece}
 use Rattle.pad_model.specs.declared.piece.Piece.TheVariants as piece
@@ -15,12 +16,13 @@ use Rattle.pad_model.specs.declared.who.Version.{Version}
 use Rattle.pad_model.specs.declared.who.Version.TheVariants as version
 use Rattle.pad_core.specs.declared.reply.LogEntry.{LogEntry}
 use Rattle.pad_core.specs.declared.reply.Listed.{Listed}
+use Rattle.pad_core.specs.declared.reply.Person.{Person}
 use Rattle.pad_core.specs.declared.reply.Present.{Present}
 use Rattle.pad_core.specs.declared.reply.PadReply.{PadReply}
 use Rattle.pad_core.specs.declared.reply.PadReply.TheVariants as pad
 use Rattle.pad_core.specs.declared.reply.Reply.{Reply}
 use Rattle.pad_core.specs.declared.reply.Reply.TheVariants as reply
-use Rattle.wire_json.specs.Words.{right_word, kind_word, state_word}
+use Rattle.wire_json.specs.Words.{grantee_word, right_word, kind_word, state_word}
 use Rattle.wire_json.specs.Forms.{Field, fields_data, list_data, each_data, number_data, text_data, op_name_data}
 use Rattle.wire_json.specs.Forms.{seen_data, author_data}
 use Rattle.wire_json.specs.Operations.{op_data}
@@ -44,11 +46,16 @@ shown_data shown = fields_data
     ∷ (codes "name", op_name_data shown.name) ∷ (codes "resolved", boolean shown.resolved)
     ∷ (codes "text", text_data shown.text) ∷ [])
 
+-- a time, where it is told
+abbrev pub time_fields : Option ℕ → List Field
+time_fields None = []
+time_fields (Some at) = (codes "at", number_data at) ∷ []
+
 -- the operation that made a revision
 abbrev pub entry_data : LogEntry → Data
 entry_data entry = fields_data
-    ((codes "author", author_data entry.author) ∷ (codes "kind", string (kind_word entry.kind))
-    ∷ (codes "name", op_name_data entry.name)
+    (time_fields entry.at ++ (codes "author", author_data entry.author)
+    ∷ (codes "kind", string (kind_word entry.kind)) ∷ (codes "name", op_name_data entry.name)
     ∷ (codes "rev", number_data entry.rev) ∷ [])
 
 -- a visit that is present
@@ -57,14 +64,26 @@ present_data present =
     fields_data ((codes "author", author_data present.author) ∷ (codes "caret", number_data present.caret)
     ∷ (codes "visit", number_data present.visit) ∷ [])
 
--- a name and its right
+-- who has a right, and which
 abbrev pub grant_data : Grant → Data
-grant_data grant = list_data (string grant.name ∷ string (right_word grant.right) ∷ [])
+grant_data grant = list_data (string (grantee_word grant.grantee) ∷ string (right_word grant.right) ∷ [])
+
+-- a revision with a name, who named it and when
+abbrev pub mark_data : NamedRevision → Data
+mark_data mark = fields_data
+    ((codes "at", number_data mark.at) ∷ (codes "author", string mark.author)
+    ∷ (codes "rev", number_data mark.rev)
+    ∷ (codes "text", text_data mark.text) ∷ [])
 
 -- a pad in a list of pads: its name, the right on it and its present revision
 abbrev pub listed_data : Listed → Data
 listed_data pad = list_data (string pad.name ∷ string (right_word pad.right) ∷ number_data pad.now
     ∷ [])
+
+-- an author with a display name
+abbrev pub person_data : Person → Data
+person_data person =
+    fields_data ((codes "author", string person.author) ∷ (codes "name", string person.name) ∷ [])
 
 -- a reply of success with these fields
 abbrev pub answer : List Field → Data
@@ -94,8 +113,14 @@ pad_data (pad.Changes now rev to pieces notes) =
 pad_data (pad.Revs now cells length) = pad_answer now ((codes "cells", number_data cells)
     ∷ (codes "length", number_data length) ∷ [])
 pad_data (pad.Entries now entries) = pad_answer now ((codes "entries", each_data entry_data entries) ∷ [])
+pad_data (pad.Times now times) = pad_answer now ((codes "times", each_data number_data times) ∷ [])
+pad_data (pad.RevsAt now revs) = pad_answer now ((codes "revs", each_data number_data revs) ∷ [])
+pad_data (pad.Birth now author rev at) =
+    pad_answer now ((codes "at", number_data at) ∷ (codes "author", author_data author)
+    ∷ (codes "rev", number_data rev) ∷ [])
 pad_data (pad.Who now who) = pad_answer now ((codes "who", each_data present_data who) ∷ [])
 pad_data (pad.Rights now rights) = pad_answer now ((codes "rights", each_data grant_data rights) ∷ [])
+pad_data (pad.Marks now marks) = pad_answer now ((codes "marks", each_data mark_data marks) ∷ [])
 pad_data (pad.Vector now seen) = pad_answer now ((codes "seen", seen_data seen) ∷ [])
 pad_data (pad.Pushed now state released dropped) =
     pad_answer now ((codes "dropped", number_data dropped) ∷ (codes "released", number_data released)
@@ -113,6 +138,7 @@ reply_data (reply.Hello author) = answer ((codes "author", author_data author) �
 reply_data (reply.Peer replica version) = answer ((codes "replica", number_data replica) ∷ version_fields version)
 reply_data (reply.Pad said) = pad_data said
 reply_data (reply.Pads pads) = answer ((codes "pads", each_data listed_data pads) ∷ [])
+reply_data (reply.People people) = answer ((codes "people", each_data person_data people) ∷ [])
 reply_data reply.Ended = answer []
 
 -- why a request is refused

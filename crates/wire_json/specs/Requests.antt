@@ -3,6 +3,7 @@ use Rattle.std.specs.Prelude.{ℕ, ◌==◌, if◌then◌else◌, Bool, true, fa
 use Rattle.std.specs.Prelude.{option_map, option_and_then, unwrap_or, is_some, bytes_eq, codes}
 use Rattle.serde_json.specs.Data.{Data}
 use Rattle.serde_json.specs.Find.{get}
+use Rattle.pad_model.specs.Checked.{is_within}
 use Rattle.pad_model.specs.declared.op.Op.{Op}
 use Rattle.pad_model.specs.declared.op.OpName.{OpName}
 use Rattle.pad_model.specs.declared.op.Part.{Part}
@@ -15,13 +16,14 @@ use Rattle.pad_core.specs.declared.act.Change.TheVariants as change
 use Rattle.pad_core.specs.declared.exchange.TheConstants.{MAX_BATCH}
 use Rattle.pad_core.specs.declared.reply.Kind.{Kind}
 use Rattle.pad_core.specs.declared.reply.Kind.TheVariants as kind
+use Rattle.pad_core.specs.declared.request.TheConstants.{MAX_PEOPLE_ASKED}
 use Rattle.pad_core.specs.declared.request.Request.{Request}
 use Rattle.pad_core.specs.declared.request.Request.TheVariants as request
 use Rattle.wire_json.specs.declared.act_words.ActWord.{ActWord}
 use Rattle.wire_json.specs.declared.act_words.ActWord.TheVariants as act_word
 use Rattle.wire_json.specs.Words.{kind_of_word, act_word_of}
-use Rattle.wire_json.specs.Reading.{of_two, of_three, of_four, field, null_or, optional, list_in, number_in, name_in}
-use Rattle.wire_json.specs.Reading.{if_there, within_in, text_in, stamp_in, op_name_in, span_in, seen_in, right_in, version_of}
+use Rattle.wire_json.specs.Reading.{of_two, of_three, of_four, field, null_or, optional, list_in, number_in, truth_in, name_in}
+use Rattle.wire_json.specs.Reading.{grantee_in, if_there, within_in, text_in, stamp_in, op_name_in, span_in, seen_in, right_in, version_of}
 
 -- the part of a kind
 abbrev pub part_of : Kind → Data → Option Part
@@ -79,6 +81,13 @@ abbrev pub change_in : Data → Option Change
 change_in d = option_and_then (λ at. change_of (is_some (get (codes "text") d)) (is_some (get (codes "len") d)) at d)
     (field number_in (codes "at") d)
 
+-- a request for times has moments, or says of which revisions
+abbrev pub times_of : Bool → Data → Option Act
+times_of true d = option_map act.RevsAt (field (list_in number_in) (codes "at") d)
+times_of false d =
+    of_three act.Times (field number_in (codes "from") d) (field number_in (codes "step") d)
+    (field number_in (codes "count") d)
+
 -- the act that its word names, from the fields that it takes
 abbrev pub act_of : ActWord → Data → Option Act
 act_of act_word.Join d = Some act.Join
@@ -102,11 +111,18 @@ act_of act_word.Changes d =
     of_three act.Changes (field number_in (codes "rev") d) (optional number_in (codes "to") d)
     (option_map (λ wait. unwrap_or wait 0) (optional number_in (codes "wait") d))
 act_of act_word.Revs d = Some act.Revs
-act_of act_word.Entries d = of_two act.Entries (field number_in (codes "from") d) (field number_in (codes "count") d)
+act_of act_word.Entries d =
+    of_three act.Entries (field number_in (codes "from") d) (field number_in (codes "count") d)
+    (option_map (λ times. unwrap_or times false) (optional truth_in (codes "times") d))
+act_of act_word.Times d = times_of (is_some (get (codes "at") d)) d
+act_of act_word.Birth d = of_two act.Birth (field number_in (codes "rev") d) (field number_in (codes "at") d)
 act_of act_word.Caret d = of_two act.Caret (field number_in (codes "rev") d) (field number_in (codes "at") d)
 act_of act_word.Who d = Some act.Who
-act_of act_word.Grant d = of_two act.Grant (field name_in (codes "author") d) (field right_in (codes "right") d)
+act_of act_word.Grant d = of_two act.Grant (field grantee_in (codes "author") d) (field right_in (codes "right") d)
+act_of act_word.Hand d = option_map act.Hand (field name_in (codes "author") d)
 act_of act_word.Rights d = Some act.Rights
+act_of act_word.Mark d = of_two act.Mark (field number_in (codes "rev") d) (field text_in (codes "text") d)
+act_of act_word.Marks d = Some act.Marks
 act_of act_word.Vector d = Some act.Vector
 act_of act_word.Push d = option_map act.Push (field op_in (codes "op") d)
 act_of act_word.Pull d =
@@ -127,6 +143,15 @@ peer_in d =
 abbrev pub create_in : Data → Option Request
 create_in d = option_map request.Create (field name_in (codes "pad") d)
 
+-- a request for display names, of as many authors as can be asked for at once
+abbrev pub people_of : List (List ℕ) → Option Request
+people_of authors =
+    if is_within (length authors) MAX_PEOPLE_ASKED then Some (request.People authors) else None
+
+-- a request for display names
+abbrev pub people_in : Data → Option Request
+people_in d = option_and_then people_of (field (list_in name_in) (codes "authors") d)
+
 -- an act on a pad
 abbrev pub on_in : List ℕ → Data → Option Request
 on_in word d = of_two request.On (field name_in (codes "pad") d) (option_and_then (λ k. act_of k d) (act_word_of word))
@@ -138,6 +163,7 @@ asked word d =
     else if bytes_eq word (codes "peer") then peer_in d
     else if bytes_eq word (codes "create") then create_in d
     else if bytes_eq word (codes "pads") then Some request.Pads
+    else if bytes_eq word (codes "people") then people_in d
     else on_in word d
 
 -- a request

@@ -1,5 +1,7 @@
 -- The words for acts, rights, kinds and states.
 use Rattle.std.specs.Prelude.{ℕ, List, [], ◌∷◌, codes, bytes_eq, if◌then◌else◌, Option, Some, None}
+use Rattle.rights.specs.declared.grantee.Grantee.{Grantee}
+use Rattle.rights.specs.declared.grantee.Grantee.TheVariants.{Author, Everyone}
 use Rattle.rights.specs.declared.right.Right.{Right}
 use Rattle.rights.specs.declared.right.Right.TheVariants as right
 use Rattle.pad_core.specs.declared.reply.Kind.{Kind}
@@ -15,6 +17,15 @@ right_word right.Read = codes "read"
 right_word right.Comment = codes "comment"
 right_word right.Write = codes "write"
 right_word right.Own = codes "own"
+
+-- the word for whom a right is granted to
+abbrev pub grantee_word : Grantee → List ℕ
+grantee_word (Author name) = name
+grantee_word Everyone = codes "*"
+
+-- whom a word names; `*` is everyone
+abbrev pub grantee_of : List ℕ → Grantee
+grantee_of word = if bytes_eq word (codes "*") then Everyone else Author word
 
 -- the word for what an operation does
 abbrev pub kind_word : Kind → List ℕ
@@ -71,8 +82,10 @@ act_words =
     ∷ (codes "delete", act_word.Delete) ∷ (codes "edit", act_word.Edit) ∷ (codes "text", act_word.Text)
     ∷ (codes "runs", act_word.Runs) ∷ (codes "comment", act_word.Comment) ∷ (codes "resolve", act_word.Resolve)
     ∷ (codes "comments", act_word.Comments) ∷ (codes "changes", act_word.Changes) ∷ (codes "revs", act_word.Revs)
-    ∷ (codes "entries", act_word.Entries) ∷ (codes "caret", act_word.Caret) ∷ (codes "who", act_word.Who) ∷ (codes "grant", act_word.Grant)
-    ∷ (codes "rights", act_word.Rights) ∷ (codes "vector", act_word.Vector) ∷ (codes "push", act_word.Push)
+    ∷ (codes "entries", act_word.Entries) ∷ (codes "times", act_word.Times) ∷ (codes "birth", act_word.Birth)
+    ∷ (codes "caret", act_word.Caret) ∷ (codes "who", act_word.Who) ∷ (codes "grant", act_word.Grant)
+    ∷ (codes "hand", act_word.Hand) ∷ (codes "rights", act_word.Rights) ∷ (codes "mark", act_word.Mark)
+    ∷ (codes "marks", act_word.Marks) ∷ (codes "vector", act_word.Vector) ∷ (codes "push", act_word.Push)
     ∷ (codes "pull", act_word.Pull) ∷ []
 
 -- the act that a word names

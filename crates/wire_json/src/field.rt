@@ -1,9 +1,9 @@
 //! The fields of an object. If a field is missing or has another form, the line is not a request (`NotRequest`).
-ghost use Rattle.std.specs.Prelude.{◌≡◌, Some, None, IfOk, MatchResult};
+ghost use Rattle.std.specs.Prelude.{◌≡◌, Some, None, IfOk, MatchResult, false, option_map, unwrap_or};
 ghost use Rattle.std.specs.Str.{chars};
 ghost use Rattle.serde_json.specs.Find.{get, as_str};
 ghost use Rattle.serde_json.specs.View.{view};
-ghost use Rattle.wire_json.specs.Reading.{IsForm, IsRead, if_there, optional, number_in, within_in, name_in, text_in};
+ghost use Rattle.wire_json.specs.Reading.{IsForm, IsRead, if_there, optional, number_in, truth_in, within_in, name_in, text_in};
 ghost use Rattle.wire_json.specs.Reading as reading;
 
 use pad_model::{Name, Refusal, Text};
@@ -45,6 +45,27 @@ pub fn optional_number_field(value: &Value, key: &str) -> Result<Option<u64>, Re
         None => Ok(None),
         Some(found) if found.is_null() => Ok(None),
         Some(found) => Ok(Some(number(found)?)),
+    }
+}
+
+/// Whether something is asked for; it is not where the field is absent or null.
+pub fn flag_field(value: &Value, key: &str) -> Result<bool, Refusal>
+    ensures { IsForm (option_map (λ given. unwrap_or given false) (optional truth_in key.now (view value.now))) result }
+{
+    match value.get(key) {
+        None => Ok(false),
+        Some(found) if found.is_null() => Ok(false),
+        Some(found) => truth(found),
+    }
+}
+
+/// True or false.
+fn truth(value: &Value) -> Result<bool, Refusal>
+    ensures { IsForm (truth_in (view value.now)) result }
+{
+    match value.as_bool() {
+        Some(truth) => Ok(truth),
+        None => Err(Refusal::NotRequest),
     }
 }
 

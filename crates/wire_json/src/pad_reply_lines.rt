@@ -9,10 +9,11 @@ use crate::number_lines::{
     changed_line, done_line, ended_line, joined_line, made_line, pushed_line, revs_line,
 };
 use crate::value_lines::value_line;
-use crate::write_forms::{seen_value, text_value};
+use crate::write_forms::{author_value, seen_value, text_value};
 use comments::Shown;
+use named_revisions::NamedRevision;
 use pad_core::{LogEntry, PadReply, Present};
-use pad_model::{AuthorRun, Op, Piece, Seen, Text};
+use pad_model::{Author, AuthorRun, Op, Piece, Seen, Text};
 use rights::Grant;
 use serde_json::{Value, json};
 use std::alloc::{AllocError, Global};
@@ -61,6 +62,18 @@ pub fn pad_line(alloc: Global, reply: &PadReply) -> Result<String, AllocError>
         PadReply::Entries { now, entries } => {
             said_line(alloc, reply, entries_value(alloc, *now, entries.as_slice()))
         }
+        PadReply::Times { now, times } => {
+            said_line(alloc, reply, times_value(alloc, *now, times.as_slice()))
+        }
+        PadReply::RevsAt { now, revs } => {
+            said_line(alloc, reply, revs_value(alloc, *now, revs.as_slice()))
+        }
+        PadReply::Birth {
+            now,
+            author,
+            rev,
+            at,
+        } => said_line(alloc, reply, birth_value(alloc, *now, author, *rev, *at)),
         PadReply::Who { now, who } => said_line(
             alloc,
             reply,
@@ -68,6 +81,9 @@ pub fn pad_line(alloc: Global, reply: &PadReply) -> Result<String, AllocError>
         ),
         PadReply::Rights { now, rights } => {
             said_line(alloc, reply, rights_value(alloc, *now, rights.as_slice()))
+        }
+        PadReply::Marks { now, marks } => {
+            said_line(alloc, reply, marks_value(alloc, *now, marks.as_slice()))
         }
         PadReply::Vector { now, seen } => said_line(alloc, reply, vector_value(alloc, *now, seen)),
         PadReply::Pulled { now, ops } => {
@@ -151,6 +167,31 @@ fn entries_value(alloc: Global, now: u64, entries: &[LogEntry]) -> Result<Value,
     answer_with(alloc, now, "entries", list_value(alloc, entries)?)
 }
 
+fn times_value(alloc: Global, now: u64, times: &[u64]) -> Result<Value, AllocError>
+    ensures { IfOk result (λ v. view v ≡ pad_data (PadReply.Times now times.now)) }
+{
+    answer_with(alloc, now, "times", list_value(alloc, times)?)
+}
+
+fn revs_value(alloc: Global, now: u64, revs: &[u64]) -> Result<Value, AllocError>
+    ensures { IfOk result (λ v. view v ≡ pad_data (PadReply.RevsAt now revs.now)) }
+{
+    answer_with(alloc, now, "revs", list_value(alloc, revs)?)
+}
+
+fn birth_value(
+    alloc: Global,
+    now: u64,
+    author: &Author,
+    rev: u64,
+    at: u64,
+) -> Result<Value, AllocError>
+    ensures { IfOk result (λ v. view v ≡ pad_data (PadReply.Birth now author.now rev at)) }
+{
+    let author = author_value(alloc, author)?;
+    json!(in alloc; {"at": at, "author": author, "now": now, "ok": true, "rev": rev})
+}
+
 fn who_value(alloc: Global, now: u64, who: &[Present]) -> Result<Value, AllocError>
     ensures { IfOk result (λ v. view v ≡ pad_data (PadReply.Who now who.now)) }
 {
@@ -161,6 +202,12 @@ fn rights_value(alloc: Global, now: u64, rights: &[Grant]) -> Result<Value, Allo
     ensures { IfOk result (λ v. view v ≡ pad_data (PadReply.Rights now rights.now)) }
 {
     answer_with(alloc, now, "rights", list_value(alloc, rights)?)
+}
+
+fn marks_value(alloc: Global, now: u64, marks: &[NamedRevision]) -> Result<Value, AllocError>
+    ensures { IfOk result (λ v. view v ≡ pad_data (PadReply.Marks now marks.now)) }
+{
+    answer_with(alloc, now, "marks", list_value(alloc, marks)?)
 }
 
 fn vector_value(alloc: Global, now: u64, seen: &Seen) -> Result<Value, AllocError>

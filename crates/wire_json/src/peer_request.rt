@@ -6,7 +6,7 @@ ghost use Rattle.wire_json.specs.Replies.{IsWritten};
 
 use crate::list::ToJson;
 use crate::value_lines::value_line;
-use crate::write_forms::{name_value, seen_value};
+use crate::write_forms::seen_value;
 use pad_model::{Name, Op, Seen};
 use serde_json::{Value, json};
 use std::alloc::{AllocError, Global};
@@ -62,27 +62,32 @@ fn pull_value(
 ) -> Result<Value, AllocError>
     ensures { IfOk result (λ v. view v ≡ pull_request pad.now seen.now most batch) }
 {
-    let pad = name_value(alloc, pad)?;
-    let seen = seen_value(alloc, seen)?;
+    let pad = pad.as_str();
     match batch {
-        None => json!(in alloc; {"do": "pull", "max": most, "pad": pad, "seen": seen}),
-        Some(count) => {
-            json!(in alloc; {"batch": count, "do": "pull", "max": most, "pad": pad, "seen": seen})
-        }
+        None => json!(in alloc; {
+            "do": "pull",
+            "max": most,
+            "pad": pad,
+            "seen": seen_value(alloc, seen)?
+        }),
+        Some(count) => json!(in alloc; {
+            "batch": count,
+            "do": "pull",
+            "max": most,
+            "pad": pad,
+            "seen": seen_value(alloc, seen)?
+        }),
     }
 }
 
 fn vector_value(alloc: Global, pad: &Name) -> Result<Value, AllocError>
     ensures { IfOk result (λ v. view v ≡ vector_request pad.now) }
 {
-    let pad = name_value(alloc, pad)?;
-    json!(in alloc; {"do": "vector", "pad": pad})
+    json!(in alloc; {"do": "vector", "pad": pad.as_str()})
 }
 
 fn push_value(alloc: Global, pad: &Name, op: &Op) -> Result<Value, AllocError>
     ensures { IfOk result (λ v. view v ≡ push_request pad.now op.now) }
 {
-    let op = op.to_json(alloc)?;
-    let pad = name_value(alloc, pad)?;
-    json!(in alloc; {"do": "push", "op": op, "pad": pad})
+    json!(in alloc; {"do": "push", "op": op.to_json(alloc)?, "pad": pad.as_str()})
 }

@@ -1,22 +1,24 @@
 //! From a JSON value to an act.
 ghost use Rattle.serde_json.specs.View.{view};
-ghost use Rattle.wire_json.specs.Reading.{IsForm, IsRead, right_in, field};
+ghost use Rattle.std.specs.Prelude.{◌≡◌, IfOk};
+ghost use Rattle.wire_json.specs.Reading.{IsForm, IsRead, grantee_in, right_in, field};
+ghost use Rattle.wire_json.specs.Words.{grantee_of};
 ghost use Rattle.wire_json.specs.Requests.{act_of, change_of, change_in};
 
 use crate::act_words::ActWord;
 use crate::field::{
-    field, name_field, number_field, optional_limited_field, optional_number_field, str_field,
-    text_field,
+    field, flag_field, name_field, number_field, optional_limited_field, optional_number_field,
+    str_field, text_field,
 };
 use crate::list::{FromJson, list_field};
 use crate::op_read::read_op;
 use crate::read_forms::{op_name_field, seen_field};
 use crate::word::granted_by;
 use pad_core::{Act, Change, MAX_BATCH};
-use pad_model::Refusal;
-use rights::Right;
+use pad_model::{Name, Refusal};
+use rights::{Grantee, Right};
 use serde_json::Value;
-use std::alloc::Global;
+use std::alloc::{AllocError, Global};
 
 fn read_insert(alloc: Global, value: &Value) -> Result<Act, Refusal>
     ensures { IsRead (act_of ActWord.Insert (view value.now)) result }
@@ -109,7 +111,29 @@ fn read_entries(value: &Value) -> Result<Act, Refusal>
 {
     let from = number_field(value, "from")?;
     let count = number_field(value, "count")?;
-    Ok(Act::Entries { from, count })
+    let times = flag_field(value, "times")?;
+    Ok(Act::Entries { from, count, times })
+}
+
+fn read_times(alloc: Global, value: &Value) -> Result<Act, Refusal>
+    ensures { IsRead (act_of ActWord.Times (view value.now)) result }
+{
+    if value.get("at").is_some() {
+        let moments = list_field(alloc, value, "at")?;
+        return Ok(Act::RevsAt { moments });
+    }
+    let from = number_field(value, "from")?;
+    let step = number_field(value, "step")?;
+    let count = number_field(value, "count")?;
+    Ok(Act::Times { from, step, count })
+}
+
+fn read_birth(value: &Value) -> Result<Act, Refusal>
+    ensures { IsForm (act_of ActWord.Birth (view value.now)) result }
+{
+    let rev = number_field(value, "rev")?;
+    let at = number_field(value, "at")?;
+    Ok(Act::Birth { rev, at })
 }
 
 fn read_caret(value: &Value) -> Result<Act, Refusal>
@@ -118,6 +142,23 @@ fn read_caret(value: &Value) -> Result<Act, Refusal>
     let rev = number_field(value, "rev")?;
     let at = number_field(value, "at")?;
     Ok(Act::Caret { rev, at })
+}
+
+/// Whom a right is granted to: `*` is everyone.
+#[tactic(auto, using(crate::proofs::Fields::grantee_of_string))]
+fn grantee_field(alloc: Global, value: &Value, key: &str) -> Result<Grantee, Refusal>
+    ensures { IsRead (field grantee_in key.now (view value.now)) result }
+{
+    Ok(grantee_of(alloc, str_field(value, key)?)?)
+}
+
+fn grantee_of(alloc: Global, word: &str) -> Result<Grantee, AllocError>
+    ensures { IfOk result (λ grantee. grantee ≡ grantee_of word.now) }
+{
+    match word {
+        "*" => Ok(Grantee::Everyone),
+        name => Ok(Grantee::Author(Name::from_str(alloc, name)?)),
+    }
 }
 
 /// The right to grant, or None to revoke it.
@@ -135,8 +176,23 @@ fn read_grant(alloc: Global, value: &Value) -> Result<Act, Refusal>
     ensures { IsRead (act_of ActWord.Grant (view value.now)) result }
 {
     let right = right_field(value, "right")?;
+    let grantee = grantee_field(alloc, value, "author")?;
+    Ok(Act::Grant { grantee, right })
+}
+
+fn read_hand(alloc: Global, value: &Value) -> Result<Act, Refusal>
+    ensures { IsRead (act_of ActWord.Hand (view value.now)) result }
+{
     let author = name_field(alloc, value, "author")?;
-    Ok(Act::Grant { author, right })
+    Ok(Act::Hand { author })
+}
+
+fn read_mark(alloc: Global, value: &Value) -> Result<Act, Refusal>
+    ensures { IsRead (act_of ActWord.Mark (view value.now)) result }
+{
+    let rev = number_field(value, "rev")?;
+    let text = text_field(alloc, value, "text")?;
+    Ok(Act::Mark { rev, text })
 }
 
 fn read_push(alloc: Global, value: &Value) -> Result<Act, Refusal>
@@ -194,10 +250,15 @@ pub fn read_act(alloc: Global, word: ActWord, value: &Value) -> Result<Act, Refu
         ActWord::Changes => read_changes(value),
         ActWord::Revs => Ok(Act::Revs),
         ActWord::Entries => read_entries(value),
+        ActWord::Times => read_times(alloc, value),
+        ActWord::Birth => read_birth(value),
         ActWord::Caret => read_caret(value),
         ActWord::Who => Ok(Act::Who),
         ActWord::Grant => read_grant(alloc, value),
+        ActWord::Hand => read_hand(alloc, value),
         ActWord::Rights => Ok(Act::Rights),
+        ActWord::Mark => read_mark(alloc, value),
+        ActWord::Marks => Ok(Act::Marks),
         ActWord::Vector => Ok(Act::Vector),
         ActWord::Push => read_push(alloc, value),
         ActWord::Pull => read_pull(alloc, value),

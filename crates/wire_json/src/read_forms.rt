@@ -3,12 +3,12 @@ ghost use Rattle.std.specs.Prelude.{◌≡◌, ◌≤◌, Some, None, option_and
 ghost use Rattle.serde_json.specs.Find.{as_array};
 ghost use Rattle.serde_json.specs.View.{view, items_view};
 ghost use Rattle.pad_model.specs.declared.limits.TheConstants.{MAX_REPLICA};
-ghost use Rattle.wire_json.specs.Reading.{IsForm, IsRead, null_or, optional, number_in, positive_in, within_in, pair_in, triple_in, stamp_of, stamp_in, op_name_in, counted_in, span_in, seen_in, version_of};
+ghost use Rattle.wire_json.specs.Reading.{IsForm, IsRead, null_or, optional, number_in, positive_in, within_in, name_in, pair_in, triple_in, stamp_of, stamp_in, op_name_in, counted_in, span_in, seen_in, version_of};
 ghost use Rattle.wire_json.specs.Reading as reading;
 
 use crate::field::{field, number, optional_number_field};
 use crate::list::FromJson;
-use pad_model::{Counted, OpName, Refusal, Seen, Span, Stamp, Version};
+use pad_model::{Counted, Name, OpName, Refusal, Seen, Span, Stamp, Version};
 use serde_json::Value;
 use std::alloc::Global;
 
@@ -151,6 +151,25 @@ pub fn seen_field(alloc: Global, value: &Value, key: &str) -> Result<Seen, Refus
     ensures { IsRead (reading.field seen_in key.now (view value.now)) result }
 {
     seen(alloc, field(value, key)?)
+}
+
+impl FromJson for u64 {
+    ghost form = { number_in };
+
+    fn from_json(_alloc: Global, value: &Value) -> Result<u64, Refusal> {
+        number(value)
+    }
+}
+
+impl FromJson for Name {
+    ghost form = { name_in };
+
+    fn from_json(alloc: Global, value: &Value) -> Result<Name, Refusal> {
+        let Some(text) = value.as_str() else {
+            return Err(Refusal::NotRequest);
+        };
+        Ok(Name::from_str(alloc, text)?)
+    }
 }
 
 impl FromJson for Span {

@@ -8,7 +8,7 @@ use crate::number_lines::ended_line;
 use crate::pad_reply_lines::pad_line;
 use crate::value_lines::value_line;
 use crate::write_forms::author_value;
-use pad_core::{Listed, Reply};
+use pad_core::{Listed, Person, Reply};
 use pad_model::{Author, Refusal, Version};
 use serde_json::{Value, json};
 use std::alloc::{AllocError, Global};
@@ -32,6 +32,7 @@ fn outcome_line(alloc: Global, outcome: &Result<Reply, Refusal>) -> Result<Strin
         }
         Ok(Reply::Pad(reply)) => pad_line(alloc, reply),
         Ok(Reply::Pads { pads }) => pads_line(alloc, pads.as_slice()),
+        Ok(Reply::People { people }) => people_line(alloc, people.as_slice()),
         Ok(Reply::Ended) => ended_line(alloc),
         Err(refusal) => value_line(alloc, refusal_value(alloc, *refusal)),
     }
@@ -62,8 +63,20 @@ fn pads_line(alloc: Global, pads: &[Listed]) -> Result<String, AllocError>
 fn pads_value(alloc: Global, pads: &[Listed]) -> Result<Value, AllocError>
     ensures { IfOk result (λ v. view v ≡ reply_data (Reply.Pads pads.now)) }
 {
-    let pads = list_value(alloc, pads)?;
-    json!(in alloc; {"ok": true, "pads": pads})
+    json!(in alloc; {"ok": true, "pads": list_value(alloc, pads)?})
+}
+
+fn people_line(alloc: Global, people: &[Person]) -> Result<String, AllocError>
+    ensures { IfOk result (λ line. IsWritten (reply_data (Reply.People people.now))
+        (string_bytes line)) }
+{
+    value_line(alloc, people_value(alloc, people))
+}
+
+fn people_value(alloc: Global, people: &[Person]) -> Result<Value, AllocError>
+    ensures { IfOk result (λ v. view v ≡ reply_data (Reply.People people.now)) }
+{
+    json!(in alloc; {"ok": true, "people": list_value(alloc, people)?})
 }
 
 /// The value of a reply to `peer`. It names the version only to peers of version 2.

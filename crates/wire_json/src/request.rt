@@ -4,14 +4,15 @@ ghost use Rattle.serde_json.specs.View.{view};
 ghost use Rattle.wire_json.specs.Lines.{request, value_of};
 ghost use Rattle.wire_json.specs.Reading.{IsForm, IsLine, IsRead};
 ghost use Rattle.wire_json.specs.Words.{act_word_of};
-ghost use Rattle.wire_json.specs.Requests.{request_in, hello_in, peer_in, create_in, on_in};
+ghost use Rattle.wire_json.specs.Requests.{request_in, hello_in, peer_in, create_in, people_in, on_in};
 
 use crate::act_words::{ActWord, act_word_of};
 use crate::field::{name_field, number_field, str_field, word_field};
+use crate::list::list_field;
 use crate::read_acts::read_act;
 use crate::read_forms::version_field;
-use pad_core::Request;
-use pad_model::{Name, Refusal};
+use pad_core::{MAX_PEOPLE_ASKED, Request};
+use pad_model::{Items, Name, Refusal};
 use serde_json::Value;
 use sessions::Word;
 use std::alloc::Global;
@@ -43,6 +44,7 @@ fn request_of(alloc: Global, value: &Value) -> Result<Request, Refusal>
         "peer" => read_peer(alloc, value),
         "create" => read_create(alloc, value),
         "pads" => Ok(Request::Pads),
+        "people" => read_people(alloc, value),
         word => read_on(alloc, word, value),
     }
 }
@@ -76,6 +78,16 @@ fn read_create(alloc: Global, value: &Value) -> Result<Request, Refusal>
 {
     let pad = name_field(alloc, value, "pad")?;
     Ok(Request::Create { pad })
+}
+
+fn read_people(alloc: Global, value: &Value) -> Result<Request, Refusal>
+    ensures { IsRead (people_in (view value.now)) result }
+{
+    let names: Items<Name> = list_field(alloc, value, "authors")?;
+    if names.is_empty() || names.len() as u64 > MAX_PEOPLE_ASKED {
+        return Err(Refusal::NotRequest);
+    }
+    Ok(Request::People { names })
 }
 
 fn read_on(alloc: Global, word: &str, value: &Value) -> Result<Request, Refusal>

@@ -2,15 +2,17 @@
 ghost use Rattle.std.specs.Prelude.{◌≡◌, IfOk};
 ghost use Rattle.serde_json.specs.View.{view};
 ghost use Rattle.serde_json.specs.Data.{string};
-ghost use Rattle.wire_json.specs.Forms.{op_name_data, stamp_data, parent_data, text_data, author_data, seen_data, counted_data, span_data};
-ghost use Rattle.wire_json.specs.Replies.{run_data, piece_data, shown_data, entry_data, present_data, grant_data, listed_data};
+ghost use Rattle.wire_json.specs.Forms.{number_data, op_name_data, stamp_data, parent_data, text_data, author_data, seen_data, counted_data, span_data};
+ghost use Rattle.wire_json.specs.Words.{grantee_word};
+ghost use Rattle.wire_json.specs.Replies.{run_data, piece_data, shown_data, entry_data, present_data, grant_data, mark_data, listed_data, person_data};
 
 use crate::list::{ToJson, list_value};
 use crate::word::{kind_word, right_word};
 use comments::Shown;
-use pad_core::{Listed, LogEntry, Present};
+use named_revisions::NamedRevision;
+use pad_core::{Listed, LogEntry, Person, Present};
 use pad_model::{Author, AuthorRun, Counted, Name, OpName, Piece, Seen, Span, Stamp, Text};
-use rights::Grant;
+use rights::{Grant, Grantee};
 use serde_json::{Map, Value, json, put};
 use std::alloc::{AllocError, Global};
 
@@ -52,6 +54,16 @@ pub fn name_value(alloc: Global, name: &Name) -> Result<Value, AllocError>
     Value::try_from_str(alloc, name.as_str())
 }
 
+/// The name of an author, or `*` for everyone.
+fn grantee_value(alloc: Global, grantee: &Grantee) -> Result<Value, AllocError>
+    ensures { IfOk result (λ v. view v ≡ string (grantee_word grantee.now)) }
+{
+    match grantee {
+        Grantee::Author(name) => name_value(alloc, name),
+        Grantee::Everyone => Value::try_from_str(alloc, "*"),
+    }
+}
+
 /// An author with the number of the server that has the account, such as `ann@1`.
 pub fn author_value(alloc: Global, author: &Author) -> Result<Value, AllocError>
     ensures { IfOk result (λ v. view v ≡ author_data author.now) }
@@ -65,6 +77,14 @@ pub fn seen_value(alloc: Global, seen: &Seen) -> Result<Value, AllocError>
     ensures { IfOk result (λ v. view v ≡ seen_data seen.now) }
 {
     list_value(alloc, seen.pairs())
+}
+
+impl ToJson for u64 {
+    ghost says = { number_data };
+
+    fn to_json(&self, _alloc: Global) -> Result<Value, AllocError> {
+        Ok(Value::from(*self))
+    }
 }
 
 impl ToJson for Counted {
@@ -112,9 +132,7 @@ impl ToJson for Piece {
                 json!(in alloc; ["drop", len])
             }
             Piece::Insert { author, text } => {
-                let text = text_value(alloc, text)?;
-                let author = author_value(alloc, author)?;
-                json!(in alloc; ["insert", text, author])
+                json!(in alloc; ["insert", text_value(alloc, text)?, author_value(alloc, author)?])
             }
         }
     }
@@ -148,7 +166,12 @@ impl ToJson for LogEntry {
         let kind = kind_word(self.kind);
         let name = op_name_value(alloc, self.name)?;
         let rev = self.rev;
-        json!(in alloc; {"author": author, "kind": kind, "name": name, "rev": rev})
+        match self.at {
+            Some(at) => {
+                json!(in alloc; {"at": at, "author": author, "kind": kind, "name": name, "rev": rev})
+            }
+            None => json!(in alloc; {"author": author, "kind": kind, "name": name, "rev": rev}),
+        }
     }
 }
 
@@ -178,8 +201,30 @@ impl ToJson for Grant {
     ghost says = { grant_data };
 
     fn to_json(&self, alloc: Global) -> Result<Value, AllocError> {
-        let name = name_value(alloc, &self.name)?;
+        let grantee = grantee_value(alloc, &self.grantee)?;
         let right = right_word(self.right);
-        json!(in alloc; [name, right])
+        json!(in alloc; [grantee, right])
+    }
+}
+
+impl ToJson for NamedRevision {
+    ghost says = { mark_data };
+
+    fn to_json(&self, alloc: Global) -> Result<Value, AllocError> {
+        let at = self.at;
+        let author = name_value(alloc, &self.author)?;
+        let rev = self.rev;
+        let text = text_value(alloc, &self.text)?;
+        json!(in alloc; {"at": at, "author": author, "rev": rev, "text": text})
+    }
+}
+
+impl ToJson for Person {
+    ghost says = { person_data };
+
+    fn to_json(&self, alloc: Global) -> Result<Value, AllocError> {
+        let author = name_value(alloc, &self.author)?;
+        let name = self.name.as_str();
+        json!(in alloc; {"author": author, "name": name})
     }
 }

@@ -1,7 +1,7 @@
 //! A client that is a browser: its request, the messages of its socket, and what it is told at its end.
-ghost use Rattle.std.specs.Prelude.{◌≡◌, ◌≢◌, ◌⊎◌, ◌<◌, ◌≤◌, ◌-◌, ℕ, List, [], true, Ok, Err, OnOk, length, min, take};
+ghost use Rattle.std.specs.Prelude.{◌≡◌, ◌≢◌, ◌⊎◌, ◌<◌, ◌≤◌, ◌-◌, ℕ, List, [], true, Ok, Err, OnOk, length, map, min, string_bytes, take};
 ghost use Rattle.pad_model.specs.declared.refusal.Refusal.TheVariants.{Memory};
-ghost use Rattle.event_loop.specs.Party.{Goes, IsFarewell, IsRequest, IsStopped, IsTold};
+ghost use Rattle.event_loop.specs.Party.{Goes, IsFarewell, IsRequest, IsStopped, IsTold, Upgrades};
 ghost use Rattle.event_loop.specs.declared.protocol.Protocol.TheVariants as protocol;
 ghost use Rattle.web_wire.specs.Messages.{message_bytes};
 ghost use Rattle.web_wire.specs.PageRequests.{Exchange};
@@ -14,6 +14,7 @@ use crate::messages::{hear, say};
 use crate::outbox::Outbox;
 use crate::party::{Party, Stage};
 use crate::protocol::Protocol;
+use crate::request_user::Authors;
 use std::alloc::{AllocError, Global};
 use std::mem;
 use web_wire::{Frames, Next, NextMessage, Page, PageRequest, Parts, Site, put_message};
@@ -21,15 +22,22 @@ use wire_json::memory_line;
 use wire_lines::Fault;
 
 impl<K: ByteSocket> Party<K> {
-    /// Answers a request over HTTP once it is complete; `kept` is served beside the site's pages. After `Next::Socket`, `open` or `refuse` goes on. If memory runs
-    /// out, nothing changes.
+    /// Answers a request over HTTP once it is complete; `kept` is served beside the site's pages. `from` is the number of
+    /// the address that it comes from. After `Next::Socket`, `open` or `refuse` goes on, and the session is that of the
+    /// author whom the accounts give for the user that the request names, if it names one; if they give none, the request
+    /// is refused. If memory runs out, nothing changes, or the client is over.
     pub fn answer_request(
         &mut self,
+        alloc: Global,
         site: Site<'_>,
         kept: &Page,
         has_room: bool,
+        from: u128,
+        authors: Authors<'_>,
     ) -> Result<Next, AllocError>
-        ensures { Goes self.old self.new }
+        ensures goes { Goes self.old self.new }
+        ensures socket { result ≡ Ok Next.Socket → Upgrades (map string_bytes site.entry.origins.now)
+            site.entry.users from authors.entry.accounts.now self.old self.new }
     {
         if self.stage != Stage::Talks {
             return Ok(Next::Read);
@@ -37,10 +45,11 @@ impl<K: ByteSocket> Party<K> {
         let Protocol::PageRequest(request) = &mut self.protocol else {
             return Ok(Next::Read);
         };
-        let answered = request.answer(site, kept, has_room);
+        let answered = request.answer(alloc, site, kept, has_room, from);
         match answered {
             Ok(Next::Close(_)) => self.close_request(),
-            Ok(Next::Socket) => self.upgrade(),
+            Ok(Next::Socket) => return self.upgrade(alloc, authors.accounts),
+            Ok(Next::User) => return self.tell_user(alloc, authors),
             _ => {}
         }
         answered
@@ -62,16 +71,6 @@ impl<K: ByteSocket> Party<K> {
         self.stage = Stage::Ends;
     }
 
-    // The response opens a socket, once it is admitted.
-    fn upgrade(&mut self)
-        ensures { (exchange : Exchange) → self.old.protocol ≡ protocol.PageRequest exchange
-            → self.new ≡ record self.old { protocol = protocol.Upgrading exchange } }
-    {
-        if let Protocol::PageRequest(request) = mem::replace(&mut self.protocol, Protocol::Over) {
-            self.protocol = Protocol::Upgrading(request);
-        }
-    }
-
     /// Refuses a request, whatever it is, because the server is full.
     pub fn refuse(&mut self, alloc: Global) -> Result<(), AllocError>
         ensures { Goes self.old self.new }
@@ -87,7 +86,7 @@ impl<K: ByteSocket> Party<K> {
     }
 
     // These bytes are to be written, and nothing more is read.
-    fn close_with(&mut self, output: Vec<u8>)
+    pub(super) fn close_with(&mut self, output: Vec<u8>)
         ensures { self.new ≡ record self.old {
           stage = Stage.Ends;
           protocol = protocol.Over;
@@ -260,7 +259,7 @@ impl<K: ByteSocket> Party<K> {
     }
 
     // Nothing more is read or written.
-    fn stop(&mut self)
+    pub(super) fn stop(&mut self)
         ensures { self.new ≡ record self.old { stage = Stage.Over; outbox = [] } }
     {
         self.stage = Stage::Over;

@@ -227,6 +227,41 @@ fn a_run_goes_on_under_new_accounts(rt: HostRuntime) -> Result<(), Fail> {
     runs_so(&rt, rt.alloc(), &mut server, NEW_ACCOUNTS)
 }
 
+const NOBODY_IS_TOLD: &str = r#"{"code":200,"error":"NoSession","ok":false}"#;
+
+/// Display names are those of the present accounts, and only authors are told them.
+const DISPLAY_NAMES: &[Turn<'static>] = &[
+    (0, r#"{"do":"people","authors":["ann"]}"#, NOBODY_IS_TOLD),
+    HELLO_ANN,
+    (
+        0,
+        r#"{"do":"people","authors":["ann"]}"#,
+        r#"{"ok":true,"people":[]}"#,
+    ),
+    (
+        0,
+        "author ann t1\nperson ann - Ann E.\nperson cyd c Cyd\n",
+        "idle",
+    ),
+    (
+        0,
+        r#"{"do":"people","authors":["cyd","bob","ann","ann@1","cyd"]}"#,
+        r#"{"ok":true,"people":[{"author":"cyd","name":"Cyd"},{"author":"ann","name":"Ann E."},{"author":"cyd","name":"Cyd"}]}"#,
+    ),
+    (
+        1,
+        r#"{"do":"peer","number":2,"token":"p2"}"#,
+        r#"{"code":201,"error":"BadToken","ok":false}"#,
+    ),
+    (1, r#"{"do":"people","authors":["ann"]}"#, NOBODY_IS_TOLD),
+];
+
+#[test]
+fn display_names_are_told(rt: HostRuntime) -> Result<(), Fail> {
+    let mut server = open(rt.alloc(), 1)?;
+    runs_so(&rt, rt.alloc(), &mut server, DISPLAY_NAMES)
+}
+
 #[test]
 fn a_run_tells_what_its_steps_do(rt: HostRuntime) -> Result<(), Fail> {
     let mut server = open(rt.alloc(), 1)?;

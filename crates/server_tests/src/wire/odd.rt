@@ -41,6 +41,14 @@ const UNASKED: &[&str] = &[
     r#""do":"grant","author":"bob","right":"Read""#,
     r#""do":"grant","author":"bob","right":null"#,
     r#""do":"grant","author":1,"right":"read""#,
+    r#""do":"mark","rev":1"#,
+    r#""do":"mark","text":"a""#,
+    r#""do":"mark","rev":null,"text":"a""#,
+    r#""do":"mark","rev":1,"text":null"#,
+    r#""do":"people""#,
+    r#""do":"people","authors":[]"#,
+    r#""do":"people","authors":"ann""#,
+    r#""do":"people","authors":["ann",1]"#,
     r#""do":"pull","max":4"#,
     r#""do":"pull","seen":null,"max":4"#,
     r#""do":"pull","seen":[[2,1],[1,1]],"max":4"#,
@@ -224,6 +232,12 @@ const ODD: &[(&str, u16)] = &[
     (r#"{"do":"text","pad":"p","rev":"1"}"#, 102),
     (r#"{"do":"text","pad":"p","rev":[1]}"#, 102),
     (r#"{"do":"text","pad":"p","rev":true}"#, 102),
+    (
+        r#"{"do":"entries","pad":"p","from":1,"count":1,"times":1}"#,
+        102,
+    ),
+    (r#"{"do":"birth","pad":"p","at":0}"#, 102),
+    (r#"{"do":"birth","pad":"p","rev":0}"#, 102),
     (r#"{"do":"text","pad":"p","rev":-0}"#, 102),
 ];
 

@@ -156,6 +156,13 @@ const LISTS: &[(Sample, &str)] = &[
         ),
     ),
     (
+        Sample::People,
+        concat!(
+            r#"{"ok":true,"people":[{"author":"ann","name":"Ann \"A\" Example"},{"author":"bob","name":"Ł😀"}]}"#,
+            "\n"
+        ),
+    ),
+    (
         Sample::Changes,
         concat!(
             r#"{"changes":[["keep",3],["drop",2],["insert","X😀","ann@1"]],"notes":2,"now":9,"ok":true,"rev":4,"to":7}"#,
@@ -170,9 +177,38 @@ const LISTS: &[(Sample, &str)] = &[
         ),
     ),
     (
+        Sample::TimedEntries,
+        concat!(
+            r#"{"entries":[{"at":0,"author":"ann@1","kind":"insert","name":[1,1],"rev":1},{"at":1795879200000,"author":"bob@1","kind":"edit","name":[1,2],"rev":2}],"now":2,"ok":true}"#,
+            "\n"
+        ),
+    ),
+    (
+        Sample::Birth,
+        concat!(
+            r#"{"at":1795873600000,"author":"bob@65535","now":130,"ok":true,"rev":37}"#,
+            "\n"
+        ),
+    ),
+    (
+        Sample::Times,
+        concat!(r#"{"now":2,"ok":true,"times":[0,1795879200000]}"#, "\n"),
+    ),
+    (
+        Sample::RevsAt,
+        concat!(r#"{"now":2,"ok":true,"revs":[2]}"#, "\n"),
+    ),
+    (
         Sample::Rights,
         concat!(
-            r#"{"now":2,"ok":true,"rights":[["ann","own"],["bob","comment"]]}"#,
+            r#"{"now":2,"ok":true,"rights":[["ann","own"],["*","read"],["bob","comment"]]}"#,
+            "\n"
+        ),
+    ),
+    (
+        Sample::Marks,
+        concat!(
+            r#"{"marks":[{"at":1795879200120,"author":"ann","rev":120,"text":"Approved on 9 December"},{"at":1795879200000,"author":"bob","rev":0,"text":"\"😀\n"}],"now":130,"ok":true}"#,
             "\n"
         ),
     ),

@@ -33,6 +33,10 @@ const REQUESTS: &[(&str, &str)] = &[
     ),
     (r#"{"do":"pads"}"#, "Pads"),
     (
+        r#"{"do":"people","authors":["ann",""]}"#,
+        r#"People { names: Items { items: [Name { text: "ann" }, Name { text: "" }] } }"#,
+    ),
+    (
         r#"{"do":"join","pad":"p"}"#,
         r#"On { pad: Name { text: "p" }, act: Join }"#,
     ),
@@ -105,8 +109,28 @@ const REQUESTS: &[(&str, &str)] = &[
         r#"On { pad: Name { text: "p" }, act: Revs }"#,
     ),
     (
+        r#"{"do":"times","pad":"p","from":1,"step":2,"count":3}"#,
+        r#"On { pad: Name { text: "p" }, act: Times { from: 1, step: 2, count: 3 } }"#,
+    ),
+    (
+        r#"{"do":"times","pad":"p","at":[5,0],"from":1}"#,
+        r#"On { pad: Name { text: "p" }, act: RevsAt { moments: Items { items: [5, 0] } } }"#,
+    ),
+    (
         r#"{"do":"entries","pad":"p","from":1,"count":101}"#,
-        r#"On { pad: Name { text: "p" }, act: Entries { from: 1, count: 101 } }"#,
+        r#"On { pad: Name { text: "p" }, act: Entries { from: 1, count: 101, times: false } }"#,
+    ),
+    (
+        r#"{"do":"entries","pad":"p","from":1,"count":2,"times":true}"#,
+        r#"On { pad: Name { text: "p" }, act: Entries { from: 1, count: 2, times: true } }"#,
+    ),
+    (
+        r#"{"do":"entries","pad":"p","from":1,"count":2,"times":null}"#,
+        r#"On { pad: Name { text: "p" }, act: Entries { from: 1, count: 2, times: false } }"#,
+    ),
+    (
+        r#"{"do":"birth","pad":"p","rev":120,"at":57}"#,
+        r#"On { pad: Name { text: "p" }, act: Birth { rev: 120, at: 57 } }"#,
     ),
     (
         r#"{"do":"caret","pad":"p","rev":1,"at":2}"#,
@@ -118,15 +142,35 @@ const REQUESTS: &[(&str, &str)] = &[
     ),
     (
         r#"{"do":"grant","pad":"p","author":"bob","right":"own"}"#,
-        r#"On { pad: Name { text: "p" }, act: Grant { author: Name { text: "bob" }, right: Some(Own) } }"#,
+        r#"On { pad: Name { text: "p" }, act: Grant { grantee: Author(Name { text: "bob" }), right: Some(Own) } }"#,
     ),
     (
         r#"{"do":"grant","pad":"p","author":"","right":"none"}"#,
-        r#"On { pad: Name { text: "p" }, act: Grant { author: Name { text: "" }, right: None } }"#,
+        r#"On { pad: Name { text: "p" }, act: Grant { grantee: Author(Name { text: "" }), right: None } }"#,
+    ),
+    (
+        r#"{"do":"grant","pad":"p","author":"*","right":"write"}"#,
+        r#"On { pad: Name { text: "p" }, act: Grant { grantee: Everyone, right: Some(Write) } }"#,
+    ),
+    (
+        r#"{"do":"hand","pad":"p","author":"bob"}"#,
+        r#"On { pad: Name { text: "p" }, act: Hand { author: Name { text: "bob" } } }"#,
     ),
     (
         r#"{"do":"rights","pad":"p"}"#,
         r#"On { pad: Name { text: "p" }, act: Rights }"#,
+    ),
+    (
+        r#"{"do":"mark","pad":"p","rev":120,"text":"Ok"}"#,
+        r#"On { pad: Name { text: "p" }, act: Mark { rev: 120, text: Text { characters: ['O', 'k'] } } }"#,
+    ),
+    (
+        r#"{"do":"mark","pad":"p","rev":0,"text":""}"#,
+        r#"On { pad: Name { text: "p" }, act: Mark { rev: 0, text: Text { characters: [] } } }"#,
+    ),
+    (
+        r#"{"do":"marks","pad":"p"}"#,
+        r#"On { pad: Name { text: "p" }, act: Marks }"#,
     ),
     (
         r#"{"do":"vector","pad":"p"}"#,

@@ -1,9 +1,11 @@
 //! Replies, each by a word.
 use comments::Shown;
-use pad_core::{Kind, Listed, LogEntry, PadReply, Present, Pushed, Reply};
+use named_revisions::NamedRevision;
+use pad_core::{Kind, Listed, LogEntry, PadReply, Person, Present, Pushed, Reply};
 use pad_model::{Author, AuthorRun, Items, Name, OpName, Piece, Refusal, Seen, Text, Version};
-use rights::{Grant, Right};
+use rights::{Grant, Grantee, Right};
 use serde_json::Value;
+use sessions::Word;
 use std::alloc::Global;
 use wire_json::read_op;
 
@@ -26,9 +28,15 @@ pub enum Sample {
     Comments,
     Who,
     Pads,
+    People,
     Changes,
     Entries,
+    TimedEntries,
+    Birth,
+    Times,
+    RevsAt,
     Rights,
+    Marks,
     Vector,
     Pulled,
 }
@@ -39,6 +47,7 @@ pub fn reply_of(alloc: Global, sample: Sample) -> Result<Reply, Refusal> {
         Sample::Peer(replica, version) => Ok(Reply::Peer { replica, version }),
         Sample::Ended => Ok(Reply::Ended),
         Sample::Pads => pads_listed(alloc),
+        Sample::People => people_told(alloc),
         Sample::Refused(refusal) => Err(refusal),
         _ => Ok(Reply::Pad(pad_reply_of(alloc, sample)?)),
     }
@@ -56,8 +65,13 @@ fn pad_reply_of(alloc: Global, sample: Sample) -> Result<PadReply, Refusal> {
         Sample::Comments => comments_told(alloc),
         Sample::Who => who_told(alloc),
         Sample::Changes => changes_told(alloc),
-        Sample::Entries => entries_told(alloc),
+        Sample::Entries => entries_told(alloc, [None, None]),
+        Sample::TimedEntries => entries_told(alloc, [Some(0), Some(1_795_879_200_000)]),
+        Sample::Birth => birth_told(alloc),
+        Sample::Times => times_told(alloc),
+        Sample::RevsAt => revs_told(alloc),
         Sample::Rights => rights_told(alloc),
+        Sample::Marks => marks_told(alloc),
         Sample::Vector => vector_told(alloc),
         Sample::Pulled => pulled_told(alloc),
         _ => Ok(numbers_told(sample)),
@@ -168,21 +182,49 @@ fn who_told(alloc: Global) -> Result<PadReply, Refusal> {
     })
 }
 
-fn entry(alloc: Global, name: &str, number: u64, kind: Kind) -> Result<LogEntry, Refusal> {
+fn entry(
+    alloc: Global,
+    name: &str,
+    number: u64,
+    kind: Kind,
+    at: Option<u64>,
+) -> Result<LogEntry, Refusal> {
     Ok(LogEntry {
         rev: number,
         name: OpName { origin: 1, number },
         author: author(alloc, name, 1)?,
         kind,
+        at,
     })
 }
 
-fn entries_told(alloc: Global) -> Result<PadReply, Refusal> {
+fn entries_told(alloc: Global, times: [Option<u64>; 2]) -> Result<PadReply, Refusal> {
     let mut entries = Items::new(alloc);
-    for (name, number, kind) in [("ann", 1, Kind::Insert), ("bob", 2, Kind::Edit)] {
-        entries.push(entry(alloc, name, number, kind)?)?;
-    }
+    entries.push(entry(alloc, "ann", 1, Kind::Insert, times[0])?)?;
+    entries.push(entry(alloc, "bob", 2, Kind::Edit, times[1])?)?;
     Ok(PadReply::Entries { now: 2, entries })
+}
+
+fn birth_told(alloc: Global) -> Result<PadReply, Refusal> {
+    Ok(PadReply::Birth {
+        now: 130,
+        author: author(alloc, "bob", 65_535)?,
+        rev: 37,
+        at: 1_795_873_600_000,
+    })
+}
+
+fn times_told(alloc: Global) -> Result<PadReply, Refusal> {
+    let mut times = Items::new(alloc);
+    for time in [0, 1_795_879_200_000] {
+        times.push(time)?;
+    }
+    Ok(PadReply::Times { now: 2, times })
+}
+
+fn revs_told(alloc: Global) -> Result<PadReply, Refusal> {
+    let revs = Items::of_one(alloc, 2)?;
+    Ok(PadReply::RevsAt { now: 2, revs })
 }
 
 fn pads_listed(alloc: Global) -> Result<Reply, Refusal> {
@@ -192,6 +234,16 @@ fn pads_listed(alloc: Global) -> Result<Reply, Refusal> {
         pads.push(Listed { name, right, now })?;
     }
     Ok(Reply::Pads { pads })
+}
+
+fn people_told(alloc: Global) -> Result<Reply, Refusal> {
+    let mut people = Items::new(alloc);
+    for (author, name) in [("ann", "Ann \"A\" Example"), ("bob", "Ł😀")] {
+        let author = Name::from_str(alloc, author)?;
+        let name = Word::from_str(alloc, name)?;
+        people.push(Person { author, name })?;
+    }
+    Ok(Reply::People { people })
 }
 
 /// Three characters stay, two go, and two of one author come.
@@ -213,16 +265,35 @@ fn changes_told(alloc: Global) -> Result<PadReply, Refusal> {
 }
 
 fn grant(alloc: Global, name: &str, right: Right) -> Result<Grant, Refusal> {
-    let name = Name::from_str(alloc, name)?;
-    Ok(Grant { name, right })
+    let grantee = Grantee::Author(Name::from_str(alloc, name)?);
+    Ok(Grant { grantee, right })
 }
 
 fn rights_told(alloc: Global) -> Result<PadReply, Refusal> {
     let mut rights = Items::new(alloc);
-    for (name, right) in [("ann", Right::Own), ("bob", Right::Comment)] {
-        rights.push(grant(alloc, name, right)?)?;
-    }
+    rights.push(grant(alloc, "ann", Right::Own)?)?;
+    rights.push(Grant {
+        grantee: Grantee::Everyone,
+        right: Right::Read,
+    })?;
+    rights.push(grant(alloc, "bob", Right::Comment)?)?;
     Ok(PadReply::Rights { now: 2, rights })
+}
+
+fn named(alloc: Global, rev: u64, author: &str, text: &str) -> Result<NamedRevision, Refusal> {
+    Ok(NamedRevision {
+        rev,
+        author: Name::from_str(alloc, author)?,
+        at: 1_795_879_200_000 + rev,
+        text: Text::from_str(alloc, text)?,
+    })
+}
+
+fn marks_told(alloc: Global) -> Result<PadReply, Refusal> {
+    let mut marks = Items::new(alloc);
+    marks.push(named(alloc, 120, "ann", "Approved on 9 December")?)?;
+    marks.push(named(alloc, 0, "bob", "\"\u{1F600}\n")?)?;
+    Ok(PadReply::Marks { now: 130, marks })
 }
 
 fn vector_told(alloc: Global) -> Result<PadReply, Refusal> {

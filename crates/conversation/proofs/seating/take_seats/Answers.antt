@@ -1,7 +1,8 @@
-use Rattle.std.proofs.Common.{◌≡◌, ◌+◌, ◌++◌, ◌∷◌, [], List, take, take_all, sym, ap, ◌∙◌}
+use Rattle.std.proofs.Common.{◌≡◌, ◌+◌, ◌++◌, ◌∷◌, [], List, take, take_all, sym, ap, ◌∙◌, subst}
+use Rattle.pad_core.proofs.Exits.{passed_on}
 use Rattle.std.proofs.lemmas.List.{take_more}
 use Rattle.shared_pads.specs.declared.seat.Seat.{Seat}
-use Rattle.conversation.specs.Seating.{cells_in}
+use Rattle.conversation.specs.Seating.{TakesSeats, cells_in}
 use Rattle.conversation.proofs.Seatings.{one_more_seat}
 use Rattle.conversation.proofs.seating.take_seats.Goals as goal
 
@@ -28,3 +29,10 @@ returns-clause-seats g c =
     let all : take c.loop-cell.cell-index c.args.cells.now ≡ c.args.cells.now =
     take_all c.loop-cell.cell-index c.args.cells.now c.loop-cell-test.false in
     let so = c.loop-cell.invariant in (so.0, so.1, so.2 ∙ ap cells_in all)
+
+pub returns-in_err-seat-clause-seats : goal.returns-in_err-seat-clause-seats
+returns-in_err-seat-clause-seats g c =
+    let so = c.loop-cell.invariant in
+    subst (λ r. TakesSeats c.args.cells.now c.args.seats.now.items r c.reserve.new.self.items)
+    (sym (passed_on c.from_residual-in_err-seat.result c.from_residual-in_err-seat.ensures.1))
+    (so.0, c.loop-cell.cell-index, c.in_ok-reserve.ensures.items ∙ so.1, so.2)

@@ -4,4 +4,4 @@ use Rattle.pad_accounts.specs.Lines.{with_authors, with_each}
 use Rattle.pad_accounts.proofs.lines.with_authors.Given as goal
 
 abbrev pub invariant-loop-author : goal.invariant-loop-author
-invariant-loop-author l = with_each l.more.items (drop l.author-index l.new) ≡ with_authors l.text l.new
+invariant-loop-author l = with_each l.kind l.more.items (drop l.author-index l.new) ≡ with_authors l.kind l.text l.new

@@ -1,12 +1,16 @@
-use Rattle.std.proofs.Common.{ap, ◌∙◌}
+use Rattle.std.proofs.Common.{IsTrue, ap, sym, subst, ◌∙◌}
+use Rattle.pad_model.specs.Checked.{is_checked}
 use Rattle.pad_core.specs.Delivered.{delivery_refusal}
 use Rattle.pad_core.proofs.Made.{appended_answers}
 use Rattle.pad_core.proofs.edit.append_parts.Goals as goal
+
+pub append-requires-clause-checked : goal.append-requires-clause-checked
+append-requires-clause-checked g c = subst (λ op. IsTrue (is_checked op)) (sym c.in_ok-op.ensures) c.requires.checked
 
 pub append-requires-clause-allowed : goal.append-requires-clause-allowed
 append-requires-clause-allowed g c = ap (λ op. delivery_refusal op c.args.ledger.now) c.in_ok-op.ensures
     ∙ c.requires.allowed
 
-pub returns : goal.returns
-returns g c = appended_answers c.args.writer.replica c.args.writer.author.now c.args.parts c.args.ledger.now
-    c.append.new.self c.in_ok-op.op c.in_ok-hidden.hidden c.in_ok-op.ensures c.in_ok-hidden.ensures
+pub returns-clause-answer : goal.returns-clause-answer
+returns-clause-answer g c = appended_answers c.args.writer.replica c.args.writer.author.now c.args.parts c.args.ledger.now
+    c.append.new.ledger c.in_ok-op.op c.in_ok-hidden.hidden c.in_ok-op.ensures c.in_ok-hidden.ensures.answer

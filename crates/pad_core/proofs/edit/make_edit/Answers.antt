@@ -22,8 +22,8 @@ append_parts-requires-clause-allowed g c =
     ∙ edit_fits c.args.writer.replica c.args.rev c.args.writer.author.now c.args.changes.now c.args.ledger.now none
     c.in_default.ensures.sound.history
 
-pub returns : goal.returns
-returns g c =
+pub returns-clause-answer : goal.returns-clause-answer
+returns-clause-answer g c =
     let none : edit_refusal c.args.rev c.args.changes.now c.args.ledger.now ≡ None = search rules in
     edit_answers c.args.writer.replica c.args.rev c.args.writer.author.now c.args.changes.now c.in_ok-parts.parts
-    c.args.ledger.now c.append_parts.new.ledger c.append_parts.result none c.in_ok-parts.ensures c.append_parts.ensures
+    c.args.ledger.now c.append_parts.new.ledger c.append_parts.result none c.in_ok-parts.ensures c.append_parts.ensures.answer

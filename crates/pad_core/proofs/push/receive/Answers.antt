@@ -22,7 +22,7 @@ returns-then-is_ready-clause-answer g c =
     c.in_ok-check.ensures (sym c.is_known.ensures ∙ c.if-is_known.false)
     (ne_eqb c.args.op.now.name.origin c.args.replica c.if-op-replica.false)
     (ap (λ v. is_ready v c.args.op.now) (sym c.seen.ensures) ∙ sym c.is_ready.ensures ∙ c.if-is_ready.true)
-    (c.deliver.ensures c.args.held.now)
+    (c.deliver.ensures.answer c.args.held.now)
 
 pub hold_back-requires-clause-new : goal.hold_back-requires-clause-new
 hold_back-requires-clause-new g c = ap (λ v. is_covered v c.args.op.now.name

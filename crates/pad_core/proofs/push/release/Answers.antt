@@ -37,11 +37,11 @@ returns-clause-held g c = subst AreChecked (sym c.take-2.ensures.rest)
 
 pub returns-in_err-append-clause-memory : goal.returns-in_err-append-clause-memory
 returns-in_err-append-clause-memory g c =
-    let failed = appended_err c.args.ledger.now c.append.new.self _ _ c.in_err-append.field-0.0
-    c.in_err-append.ensures in
+    let failed = appended_err c.args.ledger.now c.append.new.ledger _ _ c.in_err-append.field-0.0
+    c.in_err-append.ensures.answer in
     fails_passed _ c.from_residual-in_err-append.result c.from_residual-in_err-append.ensures.1 (
       failed.0,
       ap (λ log. delivery c.args.released.now log c.args.held.now) failed.1,
-      stuck c.args.ledger.now c.append.new.self c.args.held.now c.in-Some.op.now c.in_ok-op.op c.refusal_of.result
+      stuck c.args.ledger.now c.append.new.ledger c.args.held.now c.in-Some.op.now c.in_ok-op.op c.refusal_of.result
           c.in-Some.ensures c.in_ok-op.ensures.cases c.refusal_of.ensures c.in_default-refusal_of.is failed.1,
     )

@@ -9,6 +9,9 @@ pub loop-n-init : goal.loop-n-init
 loop-n-init g c = record {
   done = refl;
   checked = c.requires.held;
+  times = refl;
+  grown = omega arith;
+  room = c.requires.room;
 }
 
 pub release-requires-clause-few : goal.release-requires-clause-few
@@ -18,6 +21,9 @@ release-requires-clause-few g c =
     let test = c.loop-n-test.true in
     let held = c.len-n-end.ensures.most in
     omega arith
+
+pub release-requires-clause-room : goal.release-requires-clause-room
+release-requires-clause-room g c = c.loop-n.invariant.room
 
 pub release-requires-clause-held : goal.release-requires-clause-held
 release-requires-clause-held g c = c.loop-n.invariant.checked
@@ -49,6 +55,9 @@ loop-n-preserved g c = record {
       (delivery c.release.new.released c.release.new.ledger c.release.new.held)
       c.loop-n.invariant.done c.in_ok-release.ensures.ok;
   checked = c.release.ensures.held;
+  times = c.release.ensures.times ∙ c.loop-n.invariant.times;
+  grown = let before = c.loop-n.invariant.grown in let more = c.release.ensures.grown in omega arith;
+  room = c.release.ensures.room;
 }
 
 pub returns-clause-ok : goal.returns-clause-ok

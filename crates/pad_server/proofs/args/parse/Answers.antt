@@ -24,6 +24,7 @@ returns-clause-asked c =
     let flag = one_text-rows (found_of m) (codes "stdin") ∙ ap (one_of (codes "stdin")) rows in
     let unproved = one_text-rows (found_of m) (codes "unproved") ∙ ap (one_of (codes "unproved")) rows in
     let logged = one_text-rows (found_of m) (codes "log-access") ∙ ap (one_of (codes "log-access")) rows in
+    let anybody = one_text-rows (found_of m) (codes "any-user") ∙ ap (one_of (codes "any-user")) rows in
     let renewed = one_text-rows (found_of m) (codes "new-replica") ∙ ap (one_of (codes "new-replica")) rows in
     record {
       replica = gives_number line words m (codes "replica") 1 65535 1 c.replica_of.result rows
@@ -71,7 +72,14 @@ returns-clause-asked c =
       };
       web = c.get_str-5.ensures ∙ gives_text line words m (codes "web") rows;
       web_origins = c.get_str-6.ensures ∙ gives_text line words m (codes "web-origin") rows;
-      status = c.get_str-7.ensures ∙ gives_text line words m (codes "status") rows;
+      user_header = c.get_str-7.ensures ∙ gives_text line words m (codes "user-header") rows;
+      trusted_proxies = c.get_str-8.ensures ∙ gives_text line words m (codes "trusted-proxy") rows;
+      any_user = record {
+        absent = λ e. c.get_flag-5.ensures.none (anybody ∙ e);
+        set = λ e. c.get_flag-5.ensures.value (anybody ∙ e);
+        unset = λ e. c.get_flag-5.ensures.other (anybody ∙ e);
+      };
+      status = c.get_str-9.ensures ∙ gives_text line words m (codes "status") rows;
     }
 
 pub returns-clause-refused : goal.returns-clause-refused

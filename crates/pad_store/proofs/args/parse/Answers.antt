@@ -25,6 +25,7 @@ returns-clause-asked c =
       command = c.get_str.ensures ∙ gives_text line words m (codes "command") rows;
       path = c.get_str-2.ensures ∙ gives_text line words m (codes "path") rows;
       other = c.get_str-3.ensures ∙ gives_text line words m (codes "first") rows;
+      last = c.get_str-4.ensures ∙ gives_text line words m (codes "second") rows;
       first = λ other. gives_number line words m (codes "first") 0 4294967295 other _ rows
           (c.revision_of.ensures other);
       second = λ other. gives_number line words m (codes "second") 0 4294967295 other _ rows
@@ -33,7 +34,11 @@ returns-clause-asked c =
           (c.revision_of-3.ensures other);
       from = λ other. gives_number line words m (codes "from") 0 4294967295 other _ rows
           (c.revision_of-4.ensures other);
-      sum = c.get_str-4.ensures ∙ gives_text line words m (codes "sum") rows;
+      at = c.get_str-5.ensures ∙ gives_text line words m (codes "at") rows;
+      by = c.get_str-6.ensures ∙ gives_text line words m (codes "by") rows;
+      since = c.get_str-7.ensures ∙ gives_text line words m (codes "since") rows;
+      until = c.get_str-8.ensures ∙ gives_text line words m (codes "until") rows;
+      sum = c.get_str-9.ensures ∙ gives_text line words m (codes "sum") rows;
       authors = record {
         absent = λ e. c.get_flag.ensures.none (authors ∙ e);
         set = λ e. c.get_flag.ensures.value (authors ∙ e);

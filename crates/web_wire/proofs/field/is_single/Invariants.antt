@@ -1,7 +1,7 @@
 use Rattle.std.proofs.Common.{◌≡◌, drop}
 use Rattle.std.specs.Prelude.{if◌then◌else◌, not, is_some}
 use Rattle.websocket.specs.Headers.{fields_of, header_value}
-use Rattle.web_wire.specs.PageRequests.{is_single}
+use Rattle.web_wire.specs.Fields.{is_single}
 use Rattle.web_wire.proofs.field.is_single.Given as goal
 
 abbrev pub invariant-loop-span : goal.invariant-loop-span

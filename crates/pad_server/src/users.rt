@@ -1,0 +1,53 @@
+//! What `--user-header` and `--trusted-proxy` take.
+ghost use Rattle.std.specs.Prelude.{◌≡◌};
+ghost use Rattle.std.specs.List.{list_all};
+ghost use Rattle.pad_server.specs.Users.{is_field_name, is_name_byte};
+
+use std::net::IpAddr;
+
+/// The most proxies that `--trusted-proxy` names.
+pub const MAX_PROXIES: usize = 16;
+
+/// What is wrong with the addresses of `--trusted-proxy`.
+#[derive(Clone, Copy)]
+pub enum ProxyMistake<'a> {
+    /// This is no address.
+    NoAddress(&'a str),
+    /// There are more than `MAX_PROXIES`.
+    TooMany,
+}
+
+/// What is wrong with these addresses, which are separated by commas.
+pub fn proxy_mistake(proxies: &str) -> Option<ProxyMistake<'_>> {
+    for (index, proxy) in proxies.split(',').enumerate() {
+        let proxy = proxy.trim();
+        if proxy.parse::<IpAddr>().is_err() {
+            return Some(ProxyMistake::NoAddress(proxy));
+        }
+        if index >= MAX_PROXIES {
+            return Some(ProxyMistake::TooMany);
+        }
+    }
+    None
+}
+
+/// Whether a text may be the name of a field of a request.
+pub fn is_field_name(name: &str) -> bool
+    ensures { result ≡ is_field_name name.now }
+{
+    let bytes = name.as_bytes();
+    !bytes.is_empty() && are_name_bytes(bytes)
+}
+
+fn are_name_bytes(bytes: &[u8]) -> bool
+    ensures { result ≡ list_all is_name_byte bytes.now }
+{
+    bytes.iter().all(|byte| is_name_byte(*byte))
+}
+
+// Whether a byte may stand in the name of a field.
+fn is_name_byte(byte: u8) -> bool
+    ensures { result ≡ is_name_byte byte }
+{
+    byte.is_ascii_alphanumeric() || matches!(byte, b'-' | b'_')
+}

@@ -1,0 +1,105 @@
+//! Which author a user of a proxy is, by the accounts file, and what is shown of one who has no line.
+ghost use Rattle.std.specs.Prelude.{◌≡◌, true, IfOk};
+ghost use Rattle.pad_model.specs.Checked.{is_name};
+ghost use Rattle.sessions.specs.Users.{author_or_stranger, is_given, made_author, shown_for, shown_user, well_formed};
+ghost use Rattle.sessions.specs.UserNames.{name_for, user_for};
+
+use crate::accounts::Accounts;
+use crate::line::{display_text, name_text};
+use crate::user_name::{letters_for, user_for};
+use crate::word::Word;
+use pad_model::Name;
+use std::alloc::{AllocError, Global};
+
+/// Why a user of a proxy is no author.
+#[derive(Debug, Drop)]
+pub enum Stranger {
+    /// No person has it as its ID.
+    NoLine,
+    /// No author can have the name that is made from it: it is empty, or too long.
+    NoName,
+    /// The accounts file gives the name that is made from it to somebody.
+    Taken(Name),
+}
+
+impl Accounts {
+    /// The author who a user of a proxy is: the person with this ID, or if any user is an author, the one with the name that
+    /// is made from it.
+    #[tactic(auto, unfolding(crate::specs::Users::author_or_stranger))]
+    pub fn author_or_stranger(
+        &self,
+        alloc: Global,
+        user: &[u8],
+    ) -> Result<Result<Name, Stranger>, AllocError>
+        ensures value { IfOk result (λ found. found ≡ author_or_stranger user.now self.now) }
+        ensures named { IfOk result (λ found. IfOk found (λ name. is_name name ≡ true)) }
+    {
+        match self.author_of(user) {
+            Some(name) if name.is_well_formed() => Ok(Ok(name.clone()?)),
+            Some(_) => Ok(Err(Stranger::NoLine)),
+            None => self.made_author(alloc, user),
+        }
+    }
+
+    // The author with the name that is made from a user, if any user is an author.
+    fn made_author(&self, alloc: Global, user: &[u8]) -> Result<Result<Name, Stranger>, AllocError>
+        ensures value { IfOk result (λ found. found ≡ made_author (name_for user.now) self.now) }
+        ensures named { IfOk result (λ found. IfOk found (λ name. is_name name ≡ true)) }
+    {
+        if !self.takes_any_user() {
+            return Ok(Err(Stranger::NoLine));
+        }
+        let Some(name) = name_of(alloc, user)? else {
+            return Ok(Err(Stranger::NoName));
+        };
+        if self.gives(&name) {
+            Ok(Err(Stranger::Taken(name)))
+        } else {
+            Ok(Ok(name))
+        }
+    }
+
+    // Whether the accounts file gives a name to somebody.
+    fn gives(&self, name: &Name) -> bool
+        ensures { result ≡ is_given name.now self.now }
+    {
+        self.has_author(name.as_str()) || self.display_of(name).is_some()
+    }
+
+    /// What is shown for a name: the display name of the person with it, or the user from whom it is made.
+    pub fn shown_for(&self, alloc: Global, name: &Name) -> Result<Option<Word>, AllocError>
+        ensures { IfOk result (λ shown. shown ≡ shown_for name.now self.now) }
+    {
+        if let Some(display) = self.display_of(name) {
+            return Ok(Some(Word::from_str(alloc, display)?));
+        }
+        if !self.takes_any_user() || self.has_author(name.as_str()) {
+            return Ok(None);
+        }
+        shown_user(alloc, name.as_str())
+    }
+}
+
+// The name that is made from a user, if an author can have it.
+fn name_of(alloc: Global, user: &[u8]) -> Result<Option<Name>, AllocError>
+    ensures { IfOk result (λ name. name ≡ well_formed (name_for user.now)) }
+{
+    let letters = letters_for(alloc, user)?;
+    match name_text(letters.as_slice()) {
+        Ok(name) => Ok(Some(Name::from_str(alloc, name)?)),
+        Err(_) => Ok(None),
+    }
+}
+
+// The user from whom a name is made, if it can be shown and its name does not say the same.
+fn shown_user(alloc: Global, name: &str) -> Result<Option<Word>, AllocError>
+    ensures { IfOk result (λ shown. shown ≡ shown_user name.now (user_for name.now)) }
+{
+    let Some(user) = user_for(alloc, name.as_bytes())? else {
+        return Ok(None);
+    };
+    match display_text(user.as_slice()) {
+        Ok(display) if display != name => Ok(Some(Word::from_str(alloc, display)?)),
+        _ => Ok(None),
+    }
+}

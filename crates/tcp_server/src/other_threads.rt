@@ -1,0 +1,170 @@
+//! The threads of a server that serve no connection: how each is started, and how all are ended.
+use crate::pad_gate::PadGate;
+use crate::sender::Sender;
+use crate::settling::tell_workers;
+use crate::status::{StatusEnd, answer_status};
+use crate::status_thread::{StatusThread, end_status};
+use block_seq::BlockSeq;
+use conversation::PadTable;
+use event_loop::Hub;
+use peering::{Bell, Exchange, Group, Guard, exchange_all};
+use std::alloc::Global;
+use std::net::{Net, TcpListener, TcpStream};
+use std::sync::Wait;
+use std::thread::{Scope, Threads};
+use std::time::Clock;
+
+/// Threads that help to sync the files of many pads. They wait for the disk, so there are more of them than processors.
+const SYNCERS: u32 = 12;
+
+/// Starts the threads that help to sync files, if there is a store. Where one does not start, syncs take longer.
+pub fn start_help<'s, E, R>(scope: &Scope<'s, E>, rt: &'s R, guard: Guard<'s>)
+where
+    R: Wait + Threads + Sync,
+{
+    if let Some(keeper) = guard.keeper {
+        for _ in 0..SYNCERS {
+            let _helps = scope.spawn(move || keeper.help(rt));
+        }
+    }
+}
+
+/// Starts the thread that answers for the status, if it has an address. Returns whether it runs then.
+pub fn start_status<'s, E, R>(
+    scope: &Scope<'s, E>,
+    rt: &'s R,
+    hub: &'s Hub,
+    status: StatusThread<'s, 's>,
+) -> bool
+where
+    R: AllocGlobal
+        + Net<Listener = TcpListener, Stream = TcpStream>
+        + Clock
+        + Wait
+        + Threads
+        + Sync
+        + Eprint,
+{
+    let StatusThread { board, door, end } = status;
+    match (door, end) {
+        (Some(door), Some(end)) => scope
+            .spawn(move || answer_status(rt, door, end, hub, board))
+            .is_ok(),
+        _ => true,
+    }
+}
+
+/// Starts the threads that send to the standby and tell the workers what it has. Returns whether they run.
+pub fn start_sending<'s, E, R>(
+    scope: &Scope<'s, E>,
+    rt: &'s R,
+    hub: &'s Hub,
+    sender: &'s Sender<'s>,
+) -> bool
+where
+    R: AllocGlobal
+        + Net<Listener = TcpListener, Stream = TcpStream>
+        + Clock
+        + Wait
+        + Threads
+        + Sync
+        + Eprint,
+{
+    let keeper = sender.keeper;
+    scope.spawn(move || sender.send(rt, hub)).is_ok()
+        && scope.spawn(move || tell_workers(rt, keeper, hub)).is_ok()
+}
+
+/// Starts the threads that exchange with peers. Returns how many run, and whether these are all.
+pub fn start_exchange<'s, E, R>(
+    scope: &Scope<'s, E>,
+    row: &'s PadTable<'s, BlockSeq, R, PadGate<'s, R>>,
+    exchange: &'s Exchange,
+    groups: Vec<Group<'s, R>>,
+    guard: Guard<'s>,
+    hub: &'s Hub,
+) -> (u64, bool)
+where
+    R: AllocGlobal
+        + Net<Listener = TcpListener, Stream = TcpStream>
+        + Clock
+        + Wait
+        + Threads
+        + Sync
+        + Eprint,
+{
+    let mut threads = 0u64;
+    let mut are_all = true;
+    for group in groups {
+        match scope.spawn(move || exchange_or_stop(row, exchange, group, guard, hub)) {
+            Ok(_) => threads = threads.saturating_add(1),
+            Err(_) => are_all = false,
+        }
+    }
+    (threads, are_all)
+}
+
+// Exchanges with peers until the server ends. If the store fails meanwhile, the whole server is stopped.
+fn exchange_or_stop<'a, R>(
+    row: &PadTable<'a, BlockSeq, R, PadGate<'_, R>>,
+    exchange: &Exchange,
+    group: Group<'a, R>,
+    guard: Guard<'a>,
+    hub: &Hub,
+)
+where
+    R: AllocGlobal + Net<Listener = TcpListener, Stream = TcpStream> + Clock + Wait + Eprint,
+{
+    exchange_all(row, exchange, group, guard);
+    if guard.has_failed() {
+        hub.stop();
+    }
+}
+
+/// What ends these threads.
+#[derive(Clone, Copy)]
+pub struct Ends<'a, 'e> {
+    pub exchange: &'a Exchange,
+    pub guard: Guard<'a>,
+    /// Rung when the server ends.
+    pub bell: &'a Bell,
+    pub sender: Option<&'a Sender<'a>>,
+    pub status: Option<&'e StatusEnd>,
+}
+
+impl Ends<'_, '_> {
+    /// Ends all of them at once: the server does not serve.
+    pub fn end_at_once<R: Wait + Clock>(&self, rt: &R) {
+        self.bell.ring_last(rt);
+        self.guard.end(rt);
+        self.exchange.ring(rt);
+        if let Some(sender) = self.sender {
+            sender.end.break_off(rt);
+        }
+        self.end_help(rt);
+    }
+
+    /// Ends all of them behind the last connection. So many exchange with peers, and do so once more, and the standby gets
+    /// one more round, unless the workers have stopped.
+    pub fn end<R: Wait + Clock>(&self, rt: &R, hub: &Hub, threads: u64) {
+        self.bell.ring_last(rt);
+        if hub.has_stopped() {
+            self.guard.end(rt);
+        }
+        self.exchange.finish(rt, threads, self.guard);
+        match self.sender {
+            Some(sender) if hub.has_stopped() => sender.end.break_off(rt),
+            Some(sender) => sender.end.end(rt),
+            None => {}
+        }
+        self.end_help(rt);
+    }
+
+    // Ends those that help to sync files, and the one that answers for the status.
+    fn end_help<R: Wait>(&self, rt: &R) {
+        if let Some(keeper) = self.guard.keeper {
+            keeper.end_help(rt);
+        }
+        end_status(self.status);
+    }
+}

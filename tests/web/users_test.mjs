@@ -1,0 +1,76 @@
+// Who a page is where a proxy has logged its user in: what `hello` and /me say, also after a connection was lost.
+//
+//     node tests/web/users_test.mjs
+//
+// The last line is `N passed, M failed`.
+import { Connection } from "../../clients/js/src/connection.js";
+import { Tally } from "./pages.mjs";
+
+const tally = new Tally(), { tell } = tally;
+
+// A server behind a proxy that has logged `user` in, or nobody, and a connection of a page to it.
+function begin(user) {
+  const server = { user, hellos: [], channels: [] };
+  const open = () => {
+    const channel = {
+      signedIn: server.user,
+      listen(handlers) { Object.assign(this, handlers); queueMicrotask(() => this.onopen()); },
+      send(text) {
+        const request = JSON.parse(text);
+        server.hellos.push(request);
+        const reply = this.signedIn ? { code: 202, error: "HaveSession", ok: false }
+          : request.token === "t" ? { author: `${request.name}@1`, ok: true } : { code: 201, error: "BadToken", ok: false };
+        queueMicrotask(() => this.onmessage({ data: JSON.stringify(reply) }));
+      },
+      close() {},
+    };
+    server.channels.push(channel);
+    return channel;
+  };
+  const page = new Connection({ open, random: () => 0, user: async () => (server.user ? `${server.user}@1` : null) });
+  return { server, page };
+}
+
+const refusal = async (promise) => promise.then(() => null, (error) => error.reply?.code ?? error.message);
+const over = (page) => new Promise((done) => { page.onOver = done; });
+
+await tally.run([
+  async () => {
+    const { page } = begin("ann");
+    await page.logIn("ann", "");
+    tell("a user needs no token", page.me === "ann@1" && page.isUser, `${page.me} ${page.isUser}`);
+  },
+  async () => {
+    const { page } = begin("ann");
+    tell("nobody is another user, whatever the token", (await refusal(page.logIn("bob", "t"))) === 202 && page.login === null && page.me === "", page.me);
+  },
+  async () => {
+    const { page } = begin(null);
+    tell("without a proxy, an empty token is wrong", (await refusal(page.logIn("ann", ""))) === 201 && !page.isUser);
+    await page.logIn("ann", "t");
+    tell("and a right one logs in", page.me === "ann@1" && !page.isUser, `${page.me} ${page.isUser}`);
+  },
+  async () => {
+    const { server, page } = begin("ann");
+    await page.logIn("ann", "");
+    server.channels[0].onclose();
+    await new Promise((done) => { page.onState = () => { if (!page.isLost) done(); }; });
+    tell("a user is back after the connection was lost", page.me === "ann@1" && server.hellos.length === 2, page.me);
+  },
+  async () => {
+    const { server, page } = begin("ann"), ends = over(page);
+    await page.logIn("ann", "");
+    server.user = "bob";
+    server.channels[0].onclose();
+    const error = await ends;
+    tell("where somebody else has logged in at the proxy, the page ends", error.reply?.code === 202 && page.isOver && page.me === "ann@1", `${error} ${page.me}`);
+  },
+  async () => {
+    const { server, page } = begin("ann"), ends = over(page);
+    await page.logIn("ann", "");
+    server.user = null;
+    server.channels[0].onclose();
+    const error = await ends;
+    tell("and so it does where nobody is logged in there any more", error.reply?.code === 201 && page.isOver, String(error));
+  },
+]);

@@ -20,11 +20,11 @@ def resident(server):
 
 
 def cells_without_a_name_take_little():
-    """Less than one and a half KiB each, with the seats of five threads."""
+    """Less than one and three quarters KiB each, with the seats of five threads."""
     few, many = (Server(f"--cells {cells} --workers 4") for cells in (64, 4096))
     time.sleep(0.5)
     taken = (resident(many) - resident(few)) / (4096 - 64)
-    if taken >= 1.5:
+    if taken >= 1.75:
         raise Failed(f"{taken:.2f} KiB for each cell")
 
 

@@ -40,7 +40,7 @@ pub fn warn_of_ports<R: Clock + Eprint>(rt: &R, path: &str, accounts: &Accounts)
     }
 }
 
-/// Whether a port number, 0 to 65535, comes after the last colon of an address.
+/// Returns true if a port number, 0 to 65535, comes after the last colon of an address.
 pub fn has_port(address: &str) -> bool {
     match address.rsplit_once(':') {
         Some((_host, port)) => port.parse::<u16>().is_ok(),

@@ -1,9 +1,9 @@
-//! Why an accounts file was not accepted.
+//! The reason why an accounts file was not accepted.
 use sessions::{AccountsError, Mistake};
 use std::io;
 use thiserror::Error;
 
-/// Why an accounts file was not accepted.
+/// The reason why an accounts file was not accepted.
 #[derive(Clone, Copy, Debug, Error)]
 pub enum AccountsFileError<'a> {
     /// The file could not be read.

@@ -1,7 +1,7 @@
 //! The mistakes of an accounts file in words.
 use sessions::Mistake;
 
-/// What is wrong with a line of the accounts file, and what is expected.
+/// Returns the fault of a line of the accounts file, and the form that is expected.
 pub fn reason_of(mistake: Mistake) -> &'static str {
     match mistake {
         Mistake::Tab => "the line has a tab; words are separated by one space",

@@ -4,7 +4,7 @@ ghost use Rattle.std.specs.Net.Addr.{IsIpv4Mapped, MatchIp, ipv4_bits, ipv6_bits
 
 use std::net::IpAddr;
 
-// How many IPv6 addresses have the same first 64 bits.
+// The number of IPv6 addresses that have the same first 64 bits.
 const NETWORK: u128 = 0x1_0000_0000_0000_0000;
 
 /// The key of an address: an IPv4 address has its own, and all IPv6 addresses with the same first 64 bits have one,

@@ -1,4 +1,4 @@
-//! How many connections each address has.
+//! The number of connections of each address.
 ghost use Rattle.std.specs.Prelude.{◌≡◌, ◌+◌, ◌-◌, ◌<◌, ◌≤◌, [], true, false, nat_eq, Ok, OnErr};
 ghost use Rattle.admission.specs.Counting.{connections_of};
 
@@ -6,7 +6,7 @@ use indexmap::IndexMap;
 use std::alloc::{AllocError, Global};
 use std::marker::Model;
 
-/// How many connections each address has.
+/// The number of connections of each address.
 #[derive(Drop)]
 pub struct Connections {
     counts: IndexMap<u128, u32>,

@@ -1,7 +1,7 @@
-//! Who is let in: wrong tokens, counted by address and by name, and connections, counted by address.
+//! The admission of clients: wrong tokens, counted by address and by name, and connections, counted by address.
 //!
-//! It depends on `pad_model` for names, on `lru`, which forgets what is oldest, and on `indexmap`. It starts no threads
-//! and reads no clock: `event_loop` keeps it under a lock, and says what time it is.
+//! It depends on `pad_model` for names, on `lru`, which forgets the oldest entries, and on `indexmap`. It starts no
+//! threads and reads no clock: `event_loop` keeps it under a lock, and gives it the time.
 #![tactic(auto)]
 
 mod address;

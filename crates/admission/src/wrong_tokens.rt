@@ -1,4 +1,4 @@
-//! How many wrong tokens came from each address, and for each name.
+//! The number of wrong tokens from each address, and for each name.
 ghost use Rattle.std.specs.Prelude.{◌≡◌, ◌+◌, ◌<◌, [], Some, bytes_eq, nat_eq, option_copied, IfOk, OnErr};
 ghost use Rattle.std.specs.Map.{lookup};
 ghost use Rattle.std.specs.NonZero.{non_zero_usize_get};
@@ -16,10 +16,11 @@ pub const MOST_ADDRESSES: usize = 4_096;
 /// The most names that are remembered, as for addresses.
 pub const MOST_NAMES: usize = 1_024;
 
-/// How long after the last wrong token of an address, or for a name, all of them are forgotten, in milliseconds.
+/// The time after the last wrong token of an address, or for a name, at which all of them are forgotten, in
+/// milliseconds.
 pub const FORGOTTEN_AFTER: u64 = 600_000;
 
-/// How many wrong tokens came one after the other, and when the last one did, in milliseconds.
+/// The number of wrong tokens that came one after the other, and the time of the last one, in milliseconds.
 #[derive(Clone, Copy)]
 pub struct TokenCount {
     pub tokens: u32,
@@ -70,14 +71,14 @@ impl WrongTokens {
         self.total
     }
 
-    /// How many wrong tokens of an address are remembered at a time.
+    /// Returns the number of wrong tokens of an address that are remembered at a time.
     pub fn of_address(&self, address: u128, now: u64) -> u32
         ensures { result ≡ tokens_at now (lookup (nat_eq address) self.now.addresses) }
     {
         tokens_at(self.addresses.peek(&address), now)
     }
 
-    /// How many wrong tokens for a name are remembered at a time.
+    /// Returns the number of wrong tokens for a name that are remembered at a time.
     pub fn for_name(&self, name: &Name, now: u64) -> u32
         ensures { result ≡ tokens_at now (lookup (bytes_eq name.now) self.now.names) }
     {
@@ -115,7 +116,7 @@ impl WrongTokens {
     }
 }
 
-// How many tokens of a count are remembered at a time.
+// Returns the number of tokens of a count that are remembered at a time.
 fn tokens_at(count: Option<&TokenCount>, now: u64) -> u32
     ensures { result ≡ tokens_at now (option_copied count.entry) }
 {

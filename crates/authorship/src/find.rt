@@ -1,4 +1,4 @@
-//! Where characters are among runs.
+//! Finds characters among runs.
 ghost use Rattle.std.specs.Prelude.{◌≡◌, ◌≤◌};
 ghost use Rattle.authorship.specs.StoredRuns.{characters};
 ghost use Rattle.authorship.specs.Cut.{IsPlace, position};

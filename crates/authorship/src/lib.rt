@@ -1,4 +1,4 @@
-//! Who wrote what: the author of each visible character of a text, kept as runs in a balanced tree.
+//! Authorship: the author of each visible character of a text, kept as runs in a balanced tree.
 //!
 //! `RunTree` knows authors by their places in its caller's table. `RunList` keeps a table of its own.
 #![tactic(auto)]

@@ -7,7 +7,7 @@ ghost use Rattle.block_seq.specs.Plain.{author_at};
 use pad_model::Author;
 use std::alloc::AllocError;
 
-/// Where an author stands in the list, if it does.
+/// Returns the index of an author in the list, if it is there.
 fn find_author(authors: &[Author], author: &Author) -> Option<usize>
     ensures found { IfSome result (λ i. (i < length authors.now)
         × (author_at authors.now i ≡ author.now)) }

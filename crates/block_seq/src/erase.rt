@@ -12,7 +12,7 @@ ghost use Rattle.block_seq.specs.Plain.{kept_character, is_hidden_by, erased_at}
 use crate::place::PlainCell;
 use pad_model::{Span, Stamp};
 
-/// Whether a stamp is one of a span's.
+/// Returns true if the span covers the stamp.
 fn covers(span: &Span, stamp: Stamp) -> bool
     ensures { result ≡ in_span span.now.first span.now.len stamp }
 {
@@ -23,7 +23,7 @@ fn covers(span: &Span, stamp: Stamp) -> bool
         && stamp.counter() - counter < span.len
 }
 
-/// Whether a stamp is one of some spans'.
+/// Returns true if any of the spans covers the stamp.
 pub fn is_named(spans: &[Span], stamp: Stamp) -> bool
     ensures { result ≡ is_erased (flat_map span_stamps spans.now) stamp }
 {
@@ -36,14 +36,14 @@ fn any_covers(spans: &[Span], stamp: Stamp) -> bool
     spans.iter().any(|span| covers(span, stamp))
 }
 
-/// How many cells have a stamp of a span.
+/// Counts the cells with a stamp of the span.
 fn count_covered(cells: &[PlainCell], span: &Span) -> usize
     ensures { result ≡ count_by (λ c. in_span span.now.first span.now.len c.stamp) cells.now }
 {
     cells.iter().filter(|cell| covers(span, cell.stamp)).count()
 }
 
-/// Whether each character of a span is among the cells: no two have one stamp, so counting those in the span tells.
+/// Returns true if each character of a span is among the cells. No two cells share a stamp, so it compares counts.
 fn has_span(cells: &[PlainCell], span: &Span) -> bool
     requires checked { IsTrue (is_span span.now) }
     requires distinct { IsDistinct (same_item kept_character) cells.now }
@@ -52,7 +52,7 @@ fn has_span(cells: &[PlainCell], span: &Span) -> bool
     count_covered(cells, span) as u64 == span.len
 }
 
-/// Whether each character of some spans is among the cells.
+/// Returns true if each character of the spans is among the cells.
 pub fn has_spans(cells: &[PlainCell], spans: &[Span]) -> bool
     requires checked { IsTrue (list_all is_span spans.now) }
     requires distinct { IsDistinct (same_item kept_character) cells.now }
@@ -66,14 +66,14 @@ pub fn has_spans(cells: &[PlainCell], spans: &[Span]) -> bool
     true
 }
 
-/// Whether a deletion of the spans newly hides a cell.
+/// Returns true if a deletion of the spans newly hides the cell.
 fn is_hidden(cell: &PlainCell, spans: &[Span]) -> bool
     ensures { result ≡ is_hidden_by spans.now cell.now }
 {
     is_named(spans, cell.stamp) && cell.died.is_none()
 }
 
-/// How many cells a deletion of the spans newly hides.
+/// Counts the cells that a deletion of the spans newly hides.
 pub fn count_hidden(cells: &[PlainCell], spans: &[Span]) -> usize
     ensures { result ≡ count_by (is_hidden_by spans.now) cells.now }
 {

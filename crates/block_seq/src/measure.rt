@@ -9,7 +9,7 @@ use crate::place::PlainCell;
 use crate::readers::is_shown;
 use pad_model::Stamp;
 
-/// How many cells visible at a revision stand before a stamp; all, where it is missing.
+/// Counts the cells visible at a revision before a stamp; all of them if it is missing.
 pub fn count_before(cells: &[PlainCell], rev: u64, stamp: Stamp) -> u64
     ensures { result ≡ shown_before kept_character (plain.is_shown rev) cells.now stamp }
 {
@@ -25,7 +25,7 @@ pub fn count_before(cells: &[PlainCell], rev: u64, stamp: Stamp) -> u64
     count
 }
 
-/// How many cells visible at a revision stand up to and including a stamp; all, where it is missing.
+/// Counts the cells visible at a revision up to and including a stamp; all of them if it is missing.
 pub fn count_through(cells: &[PlainCell], rev: u64, stamp: Stamp) -> u64
     ensures { result ≡ shown_through kept_character (plain.is_shown rev) cells.now stamp }
 {
@@ -41,7 +41,7 @@ pub fn count_through(cells: &[PlainCell], rev: u64, stamp: Stamp) -> u64
     count
 }
 
-/// Whether `first` is `last` or stands before it. Both are there.
+/// Returns true if `first` is `last` or stands before it. Both are present.
 pub fn stands_before(cells: &[PlainCell], first: Stamp, last: Stamp) -> bool
     ensures { result ≡ log.stands_before kept_character cells.now first last }
 {

@@ -13,7 +13,7 @@ use crate::place::{PlainCell, may_join};
 use crate::put::put_run;
 use pad_model::Part;
 
-/// Whether an insertion or a deletion fits the cells.
+/// Returns true if an insertion or a deletion fits the cells.
 fn fits(cells: &[PlainCell], part: &Part) -> bool
     requires checked { IsTrue (are_part_spans part.now) }
     requires distinct { IsDistinct (same_item kept_character) cells.now }
@@ -26,7 +26,7 @@ fn fits(cells: &[PlainCell], part: &Part) -> bool
     }
 }
 
-/// Whether each part fits the cells as they stand.
+/// Returns true if each part fits the present cells.
 pub fn each_fits(cells: &[PlainCell], parts: &[Part]) -> bool
     requires checked { IsTrue (list_all are_part_spans parts.now) }
     requires distinct { IsDistinct (same_item kept_character) cells.now }
@@ -40,7 +40,7 @@ pub fn each_fits(cells: &[PlainCell], parts: &[Part]) -> bool
     true
 }
 
-/// How many characters the parts insert. They are within the limits of one operation.
+/// Counts the characters that the parts insert. The parts are within the limits of one operation.
 pub fn count_inserted(parts: &[Part]) -> usize
     requires { sum_by part_size parts.now ≤ MAX_TEXT }
     ensures value { result ≡ sum_by inserted_size parts.now }

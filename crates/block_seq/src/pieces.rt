@@ -1,4 +1,4 @@
-//! What leads from one revision to another, in the fewest pieces: lists that grow at their end, and the walk along cells.
+//! The fewest pieces that lead from one revision to another: lists that grow at their end, and the walk along cells.
 ghost use Rattle.std.specs.Prelude.{◌≡◌, [], ◌+◌, ◌≤◌, length, sum_by, IfOk, OnOk};
 ghost use Rattle.pad_model.specs.Pieces.{are_alike, old_len};
 ghost use Rattle.pad_model.specs.Pieces as pieces_spec;
@@ -10,7 +10,7 @@ use crate::readers::is_shown;
 use pad_model::{Author, Piece, Text};
 use std::alloc::{AllocError, Global};
 
-/// How many characters a piece keeps, if it keeps some.
+/// Returns the number of characters that a piece keeps, if it keeps any.
 fn kept_by(piece: &Piece) -> Option<u64>
     ensures { result ≡ kept_in piece.now }
 {
@@ -21,7 +21,7 @@ fn kept_by(piece: &Piece) -> Option<u64>
     }
 }
 
-/// How many characters a piece drops, if it drops some.
+/// Returns the number of characters that a piece drops, if it drops any.
 fn dropped_by(piece: &Piece) -> Option<u64>
     ensures { result ≡ dropped_in piece.now }
 {
@@ -32,7 +32,7 @@ fn dropped_by(piece: &Piece) -> Option<u64>
     }
 }
 
-/// Whether a piece inserts characters of an author.
+/// Returns true if a piece inserts characters of an author.
 fn inserts_of(piece: &Piece, author: &Author) -> bool
     ensures { result ≡ are_alike piece.now (Piece.Insert author.now []) }
 {
@@ -112,7 +112,7 @@ pub fn add_inserted(
     Ok(())
 }
 
-/// What leads from one revision to another, by one walk along the cells.
+/// Lists the pieces that lead from one revision to another, by one walk along the cells.
 pub fn plain_pieces(
     alloc: Global,
     cells: &[PlainCell],

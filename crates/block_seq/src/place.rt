@@ -20,14 +20,14 @@ pub struct PlainCell {
     pub died: Option<u64>,
 }
 
-/// Whether a character is among the cells.
+/// Returns true if a character is among the cells.
 pub fn has(cells: &[PlainCell], stamp: Stamp) -> bool
     ensures { result ≡ has_stamp kept_character cells.now stamp }
 {
     cells.iter().any(|c| c.stamp.is_same(stamp))
 }
 
-/// Whether a parent is there, or the root, and has a smaller counter.
+/// Returns true if the parent is present, or the root, and has a smaller counter.
 fn hangs_below(cells: &[PlainCell], parent: Option<Stamp>, counter: u64) -> bool
     ensures { result ≡ (has_parent kept_character cells.now parent
         && nat_lt (counter_of parent) counter) }
@@ -38,7 +38,7 @@ fn hangs_below(cells: &[PlainCell], parent: Option<Stamp>, counter: u64) -> bool
     }
 }
 
-/// Whether all characters of the stamp's replica have smaller counters.
+/// Returns true if all characters of the stamp's replica have smaller counters.
 fn is_above(cells: &[PlainCell], first: Stamp) -> bool
     ensures { result ≡ list_all (λ c. not (c.stamp.replica == first.replica)
         || nat_lt c.stamp.counter first.counter) cells.now }
@@ -48,21 +48,22 @@ fn is_above(cells: &[PlainCell], first: Stamp) -> bool
     cells.iter().all(|c| c.stamp.replica() != replica || c.stamp.counter() < counter)
 }
 
-/// Whether a run's first character fits: its parent is there, and it is newer than its parent and its replica's others.
+/// Returns true if a run's first character fits: its parent is present, and it is newer than its parent and its
+/// replica's others.
 pub fn may_join(cells: &[PlainCell], first: Stamp, parent: Option<Stamp>) -> bool
     ensures { result ≡ run_may_join kept_character cells.now first parent }
 {
     hangs_below(cells, parent, first.counter()) && is_above(cells, first)
 }
 
-/// How many cells stand before a character; all, where it is missing.
+/// Counts the cells before a character; all of them if it is missing.
 fn count_before(cells: &[PlainCell], stamp: Stamp) -> usize
     ensures { result ≡ position_or_len (λ c. same_stamp c.stamp stamp) cells.now }
 {
     cells.iter().take_while(|c| !c.stamp.is_same(stamp)).count()
 }
 
-/// How many cells there are up to and including a character; all, where it is missing.
+/// Counts the cells up to and including a character; all of them if it is missing.
 fn count_up_to(cells: &[PlainCell], stamp: Stamp) -> usize
     ensures value { result ≡ up_to kept_character stamp cells.now }
     ensures within { result ≤ length cells.now }
@@ -75,7 +76,7 @@ fn count_up_to(cells: &[PlainCell], stamp: Stamp) -> usize
     }
 }
 
-/// How many cells in front are newer.
+/// Counts the newer cells at the front.
 fn count_newer(cells: &[PlainCell], first: Stamp) -> usize
     ensures value { result ≡ passed kept_character first cells.now }
     ensures within { result ≤ length cells.now }
@@ -83,10 +84,10 @@ fn count_newer(cells: &[PlainCell], first: Stamp) -> usize
     cells.iter().take_while(|c| c.stamp.is_newer(first)).count()
 }
 
-/// Where a run goes (RGA): behind its parent, past each newer character.
+/// Finds the place of a run (RGA): after its parent, past each newer character.
 ///
-/// The scan stops before the first character that is older than the run's. What it passes hangs below newer siblings of
-/// the run, so it ends where the parent's older children begin, or the parent's subtree ends.
+/// The scan stops before the first character that is older than the run's. The characters that it passes hang below
+/// newer siblings of the run, so it ends where the parent's older children begin, or the parent's subtree ends.
 pub fn place_of(cells: &[PlainCell], parent: Option<Stamp>, first: Stamp) -> usize
     ensures value { result ≡ place_in kept_character parent first cells.now }
     ensures within { result ≤ length cells.now }

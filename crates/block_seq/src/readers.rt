@@ -1,4 +1,4 @@
-//! What the cells of the plain sequence show at a revision.
+//! The characters that the cells of the plain sequence show at a revision.
 ghost use Rattle.std.specs.Prelude.{◌≡◌, ◌==◌, if◌then◌else◌, max, length, map, filter, fold, take, drop, IfOk, slice_get, option_map, Some, None};
 ghost use Rattle.block_seq.specs.Plain.{AreKnown, author_at};
 ghost use Rattle.block_seq.specs.Plain as plain;
@@ -7,7 +7,7 @@ use crate::place::PlainCell;
 use pad_model::{Author, Stamp};
 use std::alloc::{AllocError, Global};
 
-/// Whether a cell is visible: it is born, and did not die yet.
+/// Returns true if a cell is visible: it is born and has not died yet.
 pub fn is_shown(cell: &PlainCell, rev: u64) -> bool
     ensures { result ≡ plain.is_shown rev cell.now }
 {

@@ -17,7 +17,7 @@ use pad_model::{Refusal, Span, Stamp};
 use std::alloc::Global;
 use weight_tree::WeightTree;
 
-/// Whether each character of a span is there, by one step for each block.
+/// Returns true if each character of a span is present. It takes one step for each block.
 fn has_span(tree: &WeightTree<Block>, index: &IdentIndex, span: &Span) -> bool
     requires kept { IsKept index.now tree.now.items }
     requires checked { IsTrue (is_span span.now) }
@@ -36,7 +36,7 @@ fn has_span(tree: &WeightTree<Block>, index: &IdentIndex, span: &Span) -> bool
     true
 }
 
-/// Whether each character of some spans is there.
+/// Returns true if each character of the spans is present.
 pub fn has_spans(tree: &WeightTree<Block>, index: &IdentIndex, spans: &[Span]) -> bool
     requires kept { IsKept index.now tree.now.items }
     requires checked { IsTrue (list_all is_span spans.now) }
@@ -52,7 +52,7 @@ pub fn has_spans(tree: &WeightTree<Block>, index: &IdentIndex, spans: &[Span]) -
     true
 }
 
-/// Cuts before a span and behind it.
+/// Cuts before a span and after it.
 fn cut_span(
     alloc: Global,
     tree: &mut WeightTree<Block>,
@@ -75,7 +75,7 @@ fn cut_span(
     }
 }
 
-/// Cuts before each span and behind it.
+/// Cuts before each span and after it.
 pub fn cut_spans(
     alloc: Global,
     tree: &mut WeightTree<Block>,

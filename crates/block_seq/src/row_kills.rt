@@ -14,7 +14,7 @@ use pad_model::{Span, Stamp};
 use text_history::Slide;
 use weight_tree::WeightTree;
 
-/// How many stamps a step along a span has passed, and how many characters have died there.
+/// The number of stamps that a step along a span has passed, and the number of characters that died there.
 #[derive(Clone, Copy, Debug)]
 struct Passed {
     len: u64,

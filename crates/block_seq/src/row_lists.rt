@@ -1,5 +1,5 @@
-//! Whose the visible characters of the blocks are and which stamps they have, and single characters, by one walk
-//! along the tree.
+//! The authors and the stamps of the visible characters of the blocks, and single characters, by one walk along the
+//! tree.
 ghost use Rattle.std.specs.Prelude.{◌≡◌, ◌+◌, ◌≤◌, ◌<◌, ℕ, Some, List, length, sum_by, flat_map, take, drop, slice_get, IfOk, OnOk};
 ghost use Rattle.std.specs.List.{AllByRecursion};
 ghost use Rattle.pad_model.specs.Views.{IsViewOf};
@@ -18,7 +18,7 @@ use pad_model::{Author, AuthorRun, CellView, Span, Stamp};
 use std::alloc::{AllocError, Global};
 use weight_tree::WeightTree;
 
-/// Adds characters of an author behind those of the runs.
+/// Adds characters of an author after those of the runs.
 fn add_run(runs: &mut Vec<AuthorRun>, author: &Author, len: u64) -> Result<(), AllocError>
     requires { sum_by (λ r. r.len) runs.old.items + len ≤ MAX_CHARACTERS }
     ensures { OnOk result (runs.new.items ≡ with_more runs.old.items author.now len) }
@@ -57,7 +57,7 @@ pub fn read_authors(
     Ok(runs)
 }
 
-/// Whether a stamp follows on the last one of a span.
+/// Returns true if a stamp follows the last one of a span.
 fn continues(span: &Span, first: Stamp) -> bool
     requires { span.now.len ≤ MAX_CHARACTERS }
     ensures { result ≡ same_stamp (stamp_behind span.now.first span.now.len) first }
@@ -65,7 +65,7 @@ fn continues(span: &Span, first: Stamp) -> bool
     span.first.counter() + span.len == first.counter() && span.first.replica() == first.replica()
 }
 
-/// Adds stamps from a first one on behind those of the spans.
+/// Adds `len` stamps, beginning with `first`, after those of the spans.
 pub fn add_span(spans: &mut Vec<Span>, first: Stamp, len: u64) -> Result<(), AllocError>
     requires { sum_by (λ s. s.len) spans.old.items + len ≤ MAX_CHARACTERS }
     ensures { OnOk result (spans.new.items ≡ with_stamps spans.old.items first len) }
@@ -80,7 +80,7 @@ pub fn add_span(spans: &mut Vec<Span>, first: Stamp, len: u64) -> Result<(), All
     Ok(())
 }
 
-/// The character of a block behind so many others.
+/// Returns the character at an offset within a block.
 pub fn view_at<'a>(block: &Block, text: &[char], authors: &'a [Author], offset: u64) -> CellView<'a>
     requires sized { IsSized block.now }
     requires within { IsWithin (length authors.now) (length text.now) block.now }

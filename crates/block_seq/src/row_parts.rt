@@ -17,7 +17,7 @@ use pad_model::{Part, Run, Span};
 use std::alloc::{AllocError, Global};
 use weight_tree::WeightTree;
 
-/// Whether an insertion or a deletion fits.
+/// Returns true if an insertion or a deletion fits.
 fn one_fits(tree: &WeightTree<Block>, index: &IdentIndex, part: &Part) -> bool
     requires kept { IsKept index.now tree.now.items }
     requires checked { IsTrue (are_part_spans part.now) }
@@ -32,7 +32,7 @@ fn one_fits(tree: &WeightTree<Block>, index: &IdentIndex, part: &Part) -> bool
     }
 }
 
-/// Whether each part fits.
+/// Returns true if each part fits.
 pub fn parts_fit(tree: &WeightTree<Block>, index: &IdentIndex, parts: &[Part]) -> bool
     requires kept { IsKept index.now tree.now.items }
     requires checked { IsTrue (list_all are_part_spans parts.now) }
@@ -92,7 +92,7 @@ pub fn list_runs<'a>(alloc: Global, parts: &'a [Part]) -> Result<Vec<&'a Run>, A
     Ok(all)
 }
 
-/// How many characters the runs have.
+/// Counts the characters of the runs.
 pub fn count_text(runs: &[&Run]) -> usize
     requires { sum_by (λ run. length run.now.text) runs.now ≤ MAX_CHARACTERS }
     ensures { result ≡ sum_by (λ run. length run.now.text) runs.now }

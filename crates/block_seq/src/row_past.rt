@@ -1,4 +1,5 @@
-//! What the blocks showed at a revision, by the slides since it: a step for each of these, and not for each block.
+//! The characters that the blocks showed at a revision, by the slides since it: a step for each slide, not for each
+//! block.
 ghost use Rattle.std.specs.Prelude.{◌≡◌, ◌+◌, ◌<◌, ◌≤◌, length, sum_by, flat_map, take, drop, slice_get, Some, is_none, nat_lt, if◌then◌else◌, IfOk, MatchOption};
 ghost use Rattle.std.specs.List.{AllByRecursion};
 ghost use Rattle.pad_model.specs.Cell.{cells_at};
@@ -31,7 +32,7 @@ pub struct PastRow<'a> {
     pub latest: u64,
 }
 
-/// How many characters were visible at a revision.
+/// Counts the characters visible at a revision.
 pub fn count_visible(tree: &WeightTree<Block>, slides: &[Slide], rev: u64) -> u64
     requires { IsSlid slides.now tree.now.items }
     ensures { result ≡ sum_by (shown_len rev) tree.now.items }
@@ -70,7 +71,7 @@ pub fn find_visible(
     }
 }
 
-/// Where the character is that was visible at a place at a revision, from 0.
+/// Finds the spot of the character that was visible at a place at a revision, from 0.
 fn find_spot(row: PastRow<'_>, rev: u64, place: u64) -> Option<Spot>
     requires kept { IsKept row.index.now row.tree.now.items }
     requires slid { IsSlid row.slides.now row.tree.now.items }
@@ -136,7 +137,7 @@ pub fn read_spans(
     Ok(spans)
 }
 
-/// How many characters that are alive stand before a spot.
+/// Counts the living characters before a spot.
 fn count_alive(tree: &WeightTree<Block>, spot: Spot) -> u64
     requires within { spot.rank < length tree.now.items }
     requires inside { spot.offset ≤ MAX_CHARACTERS }
@@ -153,7 +154,7 @@ fn count_alive(tree: &WeightTree<Block>, spot: Spot) -> u64
     }
 }
 
-/// How far into a stretch a stamp lies, if it is one of it.
+/// Returns the offset of a stamp within a stretch, if the stretch has it.
 fn offset_in(slide: &Slide, stamp: Stamp) -> Option<u64> {
     let first = slide.first();
     if first.replica() != stamp.replica() {
@@ -167,8 +168,8 @@ fn offset_in(slide: &Slide, stamp: Stamp) -> Option<u64> {
     }
 }
 
-/// How many characters of a stretch that was hidden at the seam where a spot lies seem to stand before the spot: of the spot's
-/// own run those up to it, before a block that was visible all, and else none.
+/// Guesses how many characters of a stretch hidden at the seam of a spot stood before the spot: those up to it if the
+/// stretch is of the spot's own run, all if the spot is at the start of a block that was visible, and none otherwise.
 fn guess_seam(slide: &Slide, first: Stamp, offset: u64, visible: bool) -> u64 {
     match offset_in(slide, first) {
         Some(passed) => passed.saturating_add(offset).min(slide.len()),
@@ -202,7 +203,7 @@ fn guess_place(tree: &WeightTree<Block>, recent: &[Slide], spot: Spot, alive: u6
     place
 }
 
-/// Whether the character that was visible at a place at a revision stands before a spot.
+/// Returns true if the character that was visible at a place at a revision stands before a spot.
 fn stood_before(row: PastRow<'_>, rev: u64, place: u64, spot: Spot) -> bool
     requires kept { IsKept row.index.now row.tree.now.items }
     requires slid { IsSlid row.slides.now row.tree.now.items }
@@ -218,8 +219,8 @@ fn stood_before(row: PastRow<'_>, rev: u64, place: u64, spot: Spot) -> bool
     }
 }
 
-/// How many characters visible at a revision stand before a spot. At an older revision it is guessed by the slides since, and
-/// the guess is looked at from both sides; only where it is wrong the place is searched by bisection.
+/// Counts the characters visible at a revision before a spot. For an older revision the count is guessed from the
+/// slides since, and the guess is checked from both sides; only if it is wrong is the place searched by bisection.
 pub fn count_front(row: PastRow<'_>, spot: Spot, rev: u64) -> u64
     requires kept { IsKept row.index.now row.tree.now.items }
     requires slid { IsSlid row.slides.now row.tree.now.items }

@@ -1,4 +1,4 @@
-//! What leads from one revision to another, from the blocks: by one walk, or by the slides since.
+//! The pieces that lead from one revision to another, from the blocks: by one walk, or by the slides since.
 ghost use Rattle.std.specs.Prelude.{◌≡◌, ℕ, ◌+◌, ◌-◌, ◌≤◌, ◌<◌, Contains, Some, length, sum_by, flat_map, slice_get, take, IfOk, OnOk};
 ghost use Rattle.std.specs.List.{AllByRecursion};
 ghost use Rattle.std.specs.List.Sorted.{IsNonDecreasing};
@@ -52,7 +52,7 @@ fn add_block(
     }
 }
 
-/// What stayed, what went and what came since a revision, by one walk along the blocks.
+/// Lists the characters kept, dropped and inserted since a revision, by one walk along the blocks.
 fn walk_pieces(alloc: Global, row: KeptRow<'_>, rev: u64, to: u64) -> Result<Vec<Piece>, AllocError>
     requires within { AllByRecursion (IsWithin (length row.authors.now) (length row.text.now))
         row.tree.now.items }
@@ -141,7 +141,8 @@ fn add_untouched(
     add_kept(pieces, kept)
 }
 
-/// What stayed, what went and what came since a revision: a step for each block that a slide since it touched.
+/// Lists the characters kept, dropped and inserted since a revision: a step for each block that a slide since it
+/// touched.
 fn read_pieces(
     alloc: Global,
     row: KeptRow<'_>,
@@ -175,7 +176,8 @@ fn read_pieces(
     Ok(pieces)
 }
 
-/// What stayed, what went and what came since a revision, by the slides since it where these are few beside the blocks.
+/// Lists the characters kept, dropped and inserted since a revision, by the slides since it if they are few compared
+/// with the blocks.
 pub fn list_pieces(
     alloc: Global,
     row: KeptRow<'_>,

@@ -1,4 +1,4 @@
-//! What the blocks show at a revision, by one walk along the tree.
+//! The characters that the blocks show at a revision, by one walk along the tree.
 ghost use Rattle.std.specs.Prelude.{◌≡◌, ℕ, ◌+◌, ◌≤◌, ◌++◌, [], ◌-◌, length, sum_by, flat_map, fold, max, IfOk, ◌<◌, Some, take, slice_get, if◌then◌else◌, nat_lt, nat_le, ◌==◌, ◌&&◌, ◌||◌};
 ghost use Rattle.std.specs.List.{AllByRecursion};
 ghost use Rattle.blocks.specs.Cells.{IsWithin};
@@ -11,7 +11,7 @@ use pad_model::Stamp;
 use std::alloc::{AllocError, Global};
 use weight_tree::WeightTree;
 
-/// Whether a block is visible: it is born, and did not die yet.
+/// Returns true if a block is visible: it is born and has not died yet.
 pub fn is_visible(block: &Block, rev: u64) -> bool
     ensures { result ≡ shows rev block.now }
 {
@@ -22,7 +22,7 @@ pub fn is_visible(block: &Block, rev: u64) -> bool
     block.born <= rev && !dead
 }
 
-/// How many characters of a block are visible.
+/// Counts the visible characters of a block.
 pub fn visible_len(block: &Block, rev: u64) -> u64
     ensures { result ≡ shown_len rev block.now }
 {
@@ -60,7 +60,7 @@ pub fn read_text(
     Ok(shown)
 }
 
-/// Whether one spot is another or stands before it.
+/// Returns true if `first` is `last` or stands before it.
 pub fn is_at_most(first: Spot, last: Spot) -> bool
     ensures { result ≡ (nat_lt first.rank last.rank
         || (first.rank == last.rank && nat_le first.offset last.offset)) }

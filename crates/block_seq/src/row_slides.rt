@@ -8,7 +8,7 @@ use pad_model::{Run, Span};
 use text_history::Slide;
 use weight_tree::WeightTree;
 
-/// How many stamps the spans name together, at most `u64::MAX`.
+/// Returns the number of stamps that the spans name together, at most `u64::MAX`.
 fn total_len(spans: &[Span]) -> u64
     ensures { result ≡ min (named_len spans.now) u64.MAX }
 {
@@ -19,7 +19,7 @@ fn total_len(spans: &[Span]) -> u64
     total
 }
 
-/// How many slides a deletion by these spans adds at most: one for each stamp, and none for a block that is not there.
+/// Returns the most slides that a deletion by these spans adds: one for each stamp, and no more than there are blocks.
 pub fn count_kills(tree: &WeightTree<Block>, spans: &[Span]) -> usize
     ensures enough { min (live_blocks tree.now.items) (named_len spans.now) ≤ result }
     ensures few { result ≤ length tree.now.items }
@@ -27,7 +27,7 @@ pub fn count_kills(tree: &WeightTree<Block>, spans: &[Span]) -> usize
     tree.len().min(total_len(spans) as usize)
 }
 
-/// Keeps the slide of a run, in room that was made before. It stands behind `at` visible characters.
+/// Keeps the slide of a run, in room that was made before. The run stands after `at` visible characters.
 pub fn push_shown(slides: &mut Vec<Slide>, rev: u64, at: u64, run: &Run)
     requires room { vec_len slides.old < vec_capacity slides.old }
     requires small { at + length run.now.text ≤ MAX_CHARACTERS }

@@ -1,4 +1,4 @@
-//! What a sequence of blocks lends of itself.
+//! The parts that a sequence of blocks lends.
 ghost use Rattle.std.specs.Prelude.{◌≡◌, List, length, sum_by};
 ghost use Rattle.std.specs.List.{AllByRecursion, IsDistinct};
 ghost use Rattle.pad_model.specs.Visible.{same_author};
@@ -14,8 +14,8 @@ use ident_index::IdentIndex;
 use pad_model::Author;
 use weight_tree::WeightTree;
 
-/// What a sequence of blocks keeps: its blocks in the order of the text, the index of their stamps, all characters in the
-/// order in which they came, and each author once.
+/// The parts of a sequence of blocks: its blocks in the order of the text, the index of their stamps, all characters in
+/// the order in which they came, and each author once.
 #[derive(Clone, Copy)]
 pub struct KeptRow<'a> {
     pub tree: &'a WeightTree<Block>,
@@ -25,7 +25,8 @@ pub struct KeptRow<'a> {
 }
 
 impl BlockSeq {
-    /// What the sequence keeps, for measures and tests: how it is cut into blocks, and their labels, are promised to nobody.
+    /// Returns the parts of the sequence, for measurements and tests. Its division into blocks and their labels are not
+    /// guaranteed.
     pub fn kept(&self) -> KeptRow<'_>
         ensures index { IsKept result.index.now result.tree.now.items }
         ensures full { length result.text.now ≡ sum_by (λ b. b.len) result.tree.now.items }
@@ -54,14 +55,14 @@ impl BlockSeq {
         &self.tree
     }
 
-    /// Where the blocks are found by the stamps of their characters.
+    /// The index that finds the blocks by the stamps of their characters.
     pub fn index(&self) -> &IdentIndex
         ensures { IsRowOf self.now.cells result.now self.now.tree }
     {
         &self.index
     }
 
-    /// How many blocks there are. An edit adds at most two for each insertion and each span of a deletion.
+    /// The number of blocks. An edit adds at most two for each insertion and each span of a deletion.
     pub fn blocks(&self) -> u64
         ensures row { (m : Index) × (bs : List block.Block) × IsRowOf self.now.cells m bs
             × (result ≡ length bs) }

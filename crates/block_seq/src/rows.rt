@@ -41,13 +41,13 @@ use weight_tree::WeightTree;
 /// A text in blocks.
 #[derive(Drop)]
 pub struct BlockSeq {
-    /// Whose the visible characters are. It stands first, since behind the tree no proof of `Send` is found.
+    /// The authors of the visible characters. This field is first: after the tree, no proof of `Send` is found.
     runs: RunTree,
     pub(crate) tree: WeightTree<Block>,
     pub(crate) index: IdentIndex,
     pub(crate) text: Vec<char>,
     pub(crate) authors: Vec<Author>,
-    /// What came and went, in the order in which it did.
+    /// The stretches of characters that came and went, in that order.
     slides: Vec<Slide>,
     /// The last revision that changed something.
     latest: u64,

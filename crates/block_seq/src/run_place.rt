@@ -1,4 +1,4 @@
-//! Where a run goes among blocks: RGA's scan, one step a block.
+//! The place of a run among blocks: RGA's scan, one step a block.
 ghost use Rattle.std.specs.Prelude.{◌≡◌, ℕ, ◌+◌, ◌≤◌, ◌<◌, List, Option, Some, true, not, nat_lt, ◌==◌, ◌&&◌, ◌||◌, length, drop, OnOk, IfErr};
 ghost use Rattle.std.specs.List.{AllByRecursion, list_all};
 ghost use Rattle.pad_model.specs.Cell.{character_of};
@@ -17,7 +17,7 @@ use pad_model::{Refusal, Run, Stamp};
 use std::alloc::Global;
 use weight_tree::WeightTree;
 
-/// Whether a character is there. The index alone tells: no block is looked up.
+/// Returns true if a character is present. The index alone suffices: no block is looked up.
 pub fn has_character(tree: &WeightTree<Block>, index: &IdentIndex, stamp: Stamp) -> bool
     requires { IsKept index.now tree.now.items }
     ensures { (authors : List author.Author) (text : List ℕ)
@@ -28,7 +28,7 @@ pub fn has_character(tree: &WeightTree<Block>, index: &IdentIndex, stamp: Stamp)
     index.locate(stamp).is_some()
 }
 
-/// Whether a parent is there, or the root, and has a smaller counter.
+/// Returns true if the parent is present, or the root, and has a smaller counter.
 fn hangs_below(
     tree: &WeightTree<Block>,
     index: &IdentIndex,
@@ -47,7 +47,7 @@ fn hangs_below(
     }
 }
 
-/// Whether all characters of a stamp's replica have smaller counters.
+/// Returns true if all characters of a stamp's replica have smaller counters.
 fn is_above(tree: &WeightTree<Block>, index: &IdentIndex, first: Stamp) -> bool
     requires { IsKept index.now tree.now.items }
     ensures { (authors : List author.Author) (text : List ℕ)
@@ -60,7 +60,8 @@ fn is_above(tree: &WeightTree<Block>, index: &IdentIndex, first: Stamp) -> bool
     index.last_of(first.replica()) < counter
 }
 
-/// Whether a run's first character fits: its parent is there, and it is newer than its parent and its replica's others.
+/// Returns true if a run's first character fits: its parent is present, and it is newer than its parent and its
+/// replica's others.
 pub fn run_fits(
     tree: &WeightTree<Block>,
     index: &IdentIndex,
@@ -89,7 +90,7 @@ fn scan_blocks(tree: &WeightTree<Block>, start: usize, first: Stamp) -> usize
     tree.len()
 }
 
-/// Cuts behind a run's parent, so that no block reaches over that place. No character changes.
+/// Cuts after a run's parent, so that no block reaches over that place. No character changes.
 pub fn cut_parent(
     alloc: Global,
     tree: &mut WeightTree<Block>,
@@ -113,7 +114,7 @@ pub fn cut_parent(
     }
 }
 
-/// Cuts behind the parent of each run.
+/// Cuts after the parent of each run.
 pub fn cut_parents(
     alloc: Global,
     tree: &mut WeightTree<Block>,
@@ -137,7 +138,7 @@ pub fn cut_parents(
     Ok(())
 }
 
-/// The rank of what follows a character, where no block reaches over the place behind it.
+/// Returns the rank of the block after a character. No block reaches over the place after the character.
 fn rank_behind(tree: &WeightTree<Block>, index: &IdentIndex, stamp: Stamp) -> usize
     requires kept { IsKept index.now tree.now.items }
     requires cut { IsEdge index.now (stamp_behind stamp 1) }
@@ -169,7 +170,7 @@ fn start_run(tree: &WeightTree<Block>, index: &IdentIndex, parent: Option<Stamp>
     }
 }
 
-/// Where a run goes among blocks that are cut behind its parent.
+/// Finds the place of a run among blocks that are cut after its parent.
 pub fn find_place(
     tree: &WeightTree<Block>,
     index: &IdentIndex,

@@ -26,7 +26,7 @@ use pad_model::{Author, Refusal, Run};
 use text_history::Slide;
 use weight_tree::WeightTree;
 
-/// What the runs of one operation have in common.
+/// The values that the runs of one operation have in common.
 #[derive(Clone, Copy)]
 pub struct Batch<'a> {
     pub authors: &'a [Author],
@@ -37,7 +37,7 @@ pub struct Batch<'a> {
     pub clock: u64,
 }
 
-/// Puts a run at its place, in room that was made before, and answers its rank. The blocks are cut behind its parent.
+/// Puts a run at its place, in room that was made before, and returns its rank. The blocks are cut after its parent.
 fn put_run(
     tree: &mut WeightTree<Block>,
     index: &mut IdentIndex,

@@ -10,7 +10,7 @@ ghost use Rattle.block_seq.specs.KeptParts.{following};
 use pad_model::{Author, AuthorRun, Span, Stamp};
 use std::alloc::{AllocError, Global};
 
-/// How many authors in front are this one.
+/// Counts the authors at the front that equal this one.
 fn count_same(authors: &[&Author], author: &Author) -> usize
     ensures value { result ≡ prefix_len (λ other. same_author author.now other.now) authors.now }
     ensures within { result ≤ length authors.now }
@@ -37,14 +37,14 @@ pub fn runs_of(alloc: Global, authors: &[&Author]) -> Result<Vec<AuthorRun>, All
     Ok(runs)
 }
 
-/// Whether one stamp follows on another.
+/// Returns true if a stamp follows `last`.
 fn follows(last: Stamp, stamp: Stamp) -> bool
     ensures { result ≡ same_stamp (next last) stamp }
 {
     last.replica() == stamp.replica() && last.counter() + 1 == stamp.counter()
 }
 
-/// How many stamps in front follow on a first one, each on the one before it.
+/// Counts the stamps at the front that follow a first one, each the one before it.
 fn count_following(first: Stamp, stamps: &[Stamp]) -> usize
     ensures value { result ≡ following first stamps.now }
     ensures within { result ≤ length stamps.now }

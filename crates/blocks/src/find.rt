@@ -1,4 +1,4 @@
-//! Where a character is among the blocks.
+//! Finds a character among the blocks.
 ghost use Rattle.std.specs.Prelude.{◌≡◌, ℕ, slice_get, Some, MatchOption};
 ghost use Rattle.ident_index.specs.Index.{HoldsNone, IsSound};
 ghost use Rattle.blocks.specs.Blocks.{Rises, IsKept, IsSpot};

@@ -9,7 +9,7 @@ use crate::block::{Block, LAST_LABEL};
 use ident_index::IdentIndex;
 use weight_tree::WeightTree;
 
-/// How far a new block's label is above the label of the block before it, if there is room.
+/// The distance of a new block's label from the label of the block before it, if there is room.
 const STRIDE: u64 = 65_536;
 
 /// The label of the block before a rank, or 0.

@@ -31,7 +31,7 @@ impl CellSet {
         }
     }
 
-    /// Whether the set has a cell.
+    /// Returns true if the set has a cell.
     pub fn has(&self, cell: u32) -> bool {
         match self.word_of(cell) {
             Some(word) => word.load(Ordering::SeqCst) & bit_of(cell) != 0,
@@ -63,7 +63,7 @@ impl CellSet {
         Ok(cells)
     }
 
-    /// Whether the set is empty.
+    /// Returns true if the set is empty.
     pub fn is_empty(&self) -> bool {
         self.words
             .iter()

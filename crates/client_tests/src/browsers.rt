@@ -1,4 +1,4 @@
-//! A browser: its request, its messages, and what it is sent.
+//! A browser: its request, its messages, and the bytes that it is sent.
 use crate::memory_socket::MemorySocket;
 use crate::stage::{PartyPads, browser_bytes, put_frame, seated, serve_browser};
 use event_loop::{Party, Protocol, Stage};
@@ -6,7 +6,7 @@ use std::process::Abort;
 use std::test::Fail;
 use web_wire::PageRequest;
 
-/// What RFC 6455, section 1.3 answers to its example of a key.
+/// The answer of RFC 6455, section 1.3 to its example of a key.
 const ACCEPTED: &str = "s3pPLMBiTxaQ9kYGzzhZRbK+xOo=";
 
 const HELLO: &[u8] = br#"{"do":"hello","name":"a1","token":"t"}"#;
@@ -17,7 +17,7 @@ const AUTHOR: &[u8] = br#"{"author":"a1@1","ok":true}"#;
 
 const CREATED: &[u8] = br#"{"now":0,"ok":true,"visit":1}"#;
 
-// Whether a response opens the socket.
+// Returns true if a response opens the socket.
 fn is_opened(response: &[u8]) -> bool {
     match str::from_utf8(response) {
         Ok(text) => text.starts_with("HTTP/1.1 101 ")

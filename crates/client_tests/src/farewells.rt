@@ -1,4 +1,4 @@
-//! What a client is told once when it is no longer served.
+//! The farewell that a client gets once when it is no longer served.
 use crate::memory_socket::MemorySocket;
 use crate::stage::{PartyPads, browser_bytes, seated, serve_browser, write};
 use event_loop::{Party, Protocol, Stage, Transfer};
@@ -68,7 +68,7 @@ fn a_socket_is_closed_once_with_1001(rt: HostRuntime) -> Result<(), Fail> {
     party.say_goodbye();
     write(&mut party)?;
     let came = party.end(&mut pads).into_written();
-    // A close frame with the code 1001 (RFC 6455, sections 5.5.1 and 7.4.1), behind the response.
+    // A close frame with the code 1001 (RFC 6455, sections 5.5.1 and 7.4.1), after the response.
     assert!(rt;
         came.ends_with(b"\r\n\r\n\x88\x02\x03\xE9"),
         "came {}",

@@ -1,5 +1,5 @@
-//! Tests of a client as a worker has it, over a socket in memory: what it reads, answers and writes, in pieces of each
-//! size, and what it is told at its end.
+//! Tests of a client as a worker has it, over a socket in memory: the bytes that it reads, answers and writes, in
+//! pieces of each size, and its farewell.
 #![tactic(auto)]
 
 #[cfg(test)]

@@ -7,7 +7,7 @@ use std::io;
 use std::io::{Read, Write};
 use web_wire::Machines;
 
-/// A socket that gives these bytes, and then no more, and keeps what was written.
+/// A socket that gives these bytes, and then no more, and keeps the bytes that were written.
 #[derive(Drop)]
 pub struct MemorySocket<'a> {
     unread: &'a [u8],
@@ -26,7 +26,7 @@ impl<'a> MemorySocket<'a> {
         }
     }
 
-    /// What was written.
+    /// The bytes that were written.
     pub fn into_written(self) -> Vec<u8> {
         self.written
     }

@@ -205,7 +205,7 @@ fn is_answered<R: AllocGlobal + Wait + Abort>(
     Ok(())
 }
 
-// Whether one list of bytes contains the other.
+// Returns true if one list of bytes contains the other.
 fn has(bytes: &[u8], part: &[u8]) -> bool {
     bytes.windows(part.len().max(1)).any(|some| some == part)
 }

@@ -1,4 +1,4 @@
-//! What the command lines of the programs share: options, and the exit status after a bad command line.
+//! The parts that the command lines of the programs share: options, and the exit status after a bad command line.
 //!
 //! It depends on `clap`, on `server_core` for the greatest number of cells, and on `sessions` for the greatest number
 //! of visits on a pad. Each program has its own help texts.

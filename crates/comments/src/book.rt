@@ -47,7 +47,7 @@ impl CommentBook {
         self.comments.len() as u64
     }
 
-    /// Whether there is a comment with this name.
+    /// Returns true if there is a comment with this name.
     pub fn has(&self, name: OpName) -> bool
         ensures { result ≡ is_comment name self.now }
     {

@@ -53,7 +53,7 @@ pub fn range_between<S: Sequence>(
     })
 }
 
-/// Whether a comment is resolved at a revision.
+/// Returns true if a comment is resolved at a revision.
 fn is_resolved(resolved: Option<u64>, rev: u64) -> bool
     ensures { result ≡ comments_spec.is_resolved rev resolved }
 {

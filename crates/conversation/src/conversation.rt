@@ -120,7 +120,7 @@ impl Conversation {
         self.lines.first_line()
     }
 
-    /// Whether any byte follows the first line.
+    /// Returns true if any byte follows the first line.
     pub fn has_second(&self) -> bool
         ensures { result ≡ nat_lt 0 (length (behind_line self.now.waiting)) }
     {
@@ -228,7 +228,7 @@ impl Conversation {
         self.lines.len()
     }
 
-    /// Whether a line was too long. If so, no further line is answered.
+    /// Returns true if a line was too long. If so, no further line is answered.
     pub fn is_cut(&self) -> bool
         ensures { result ≡ self.now.cut }
     {

@@ -44,7 +44,7 @@ impl NameBook {
         self.names.len()
     }
 
-    // Whether a cell is known to have this name.
+    // Returns true if a cell is known to have this name.
     fn is_known(&self, pad: &Name) -> bool
         ensures { result ≡ is_known pad.now self.now.names }
     {

@@ -10,16 +10,16 @@ use std::alloc::Global;
 
 /// The pads of a server, as one session sees them.
 pub trait Pads {
-    /// What `call` may return, and the state that it may leave.
+    /// The results that `call` may return, and the states that it may leave.
     ghost calls: { Self → Request → Result Reply Refusal → Self → Type 0 };
 
-    /// What `relay` may return, and the state that it may leave.
+    /// The results that `relay` may return, and the states that it may leave.
     ghost relays: { Self → ℕ → Result Reply Refusal → Self → Type 0 };
 
-    /// The state that `end` may leave.
+    /// The states that `end` may leave.
     ghost ends: { Self → Self → Type 0 };
 
-    /// What `name_of` may return, and the state that it may leave.
+    /// The results that `name_of` may return, and the states that it may leave.
     ghost names: { Self → ℕ → Result (Option (List ℕ)) Refusal → Self → Type 0 };
 
     /// The number of cells.

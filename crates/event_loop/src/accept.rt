@@ -250,14 +250,15 @@ fn take<R: Clock + Wait + Eprint>(
     }
 }
 
-/// Why a connection is one too many.
+/// The limit that leaves no room for a connection.
 #[derive(Clone, Copy)]
 struct Full {
     most: u32,
     of: &'static str,
 }
 
-// Why there is no room for a connection, if there is none. If there is, it is counted for its address.
+// Returns the limit that leaves no room for a connection, if there is one. If there is room, the connection is counted
+// for its address.
 fn what_is_full<R: Wait>(
     rt: &R,
     address: u128,

@@ -1,4 +1,4 @@
-//! What is sent to a worker: clients, and new accounts.
+//! Messages to a worker: clients and new accounts.
 ghost use Rattle.std.specs.Prelude.{◌≡◌, ◌+◌};
 ghost use Rattle.std.specs.Net.Addr.{MatchIp, ipv4_bits, ipv6_bits};
 
@@ -23,7 +23,7 @@ pub enum Entrance {
 }
 
 impl Entrance {
-    /// What a connection accepted there speaks.
+    /// Returns the protocol that a connection accepted there speaks.
     pub fn protocol(self, alloc: Global) -> Protocol {
         match self {
             Entrance::Lines => Protocol::Lines,
@@ -31,7 +31,7 @@ impl Entrance {
         }
     }
 
-    /// How a connection accepted there counts.
+    /// Returns the kind that a connection accepted there counts as.
     pub fn connected(self) -> Connected {
         match self {
             Entrance::Lines => Connected::Client,
@@ -40,7 +40,7 @@ impl Entrance {
     }
 }
 
-/// Where a connection comes from.
+/// The source of a connection.
 #[derive(Clone, Copy)]
 pub struct ClientAddress {
     /// The number of its address.
@@ -50,7 +50,8 @@ pub struct ClientAddress {
 }
 
 impl ClientAddress {
-    /// Where a connection from an address comes from. The number is the one that is compared with those of proxies.
+    /// Returns the source of a connection from an address. The number is the one that is compared with those of
+    /// proxies.
     pub fn new(address: IpAddr) -> ClientAddress
         ensures { MatchIp address (λ own. result.number ≡ 0xFFFF_0000_0000 + ipv4_bits own)
             (λ own. result.number ≡ ipv6_bits own) }
@@ -62,7 +63,7 @@ impl ClientAddress {
     }
 }
 
-/// What is sent to a worker.
+/// A message to a worker.
 #[derive(Drop)]
 pub enum Arrival {
     /// A connection that was accepted, at this entrance.

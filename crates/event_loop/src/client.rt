@@ -42,11 +42,11 @@ pub struct Client {
     /// Its socket, its conversation and its session.
     pub(crate) party: Party<TcpStream>,
     pub(crate) phase: Phase,
-    /// Whether a read may give bytes.
+    /// The readiness of its socket: whether a read may give bytes.
     pub(crate) readiness: Readiness,
-    /// Whether the client is queued to be served.
+    /// True if the client is queued to be served.
     is_queued: bool,
-    /// Whether the client is in the list of those held back.
+    /// True if the client is in the list of those held back.
     is_listed: bool,
     pub(crate) moves: bool,
     pub(crate) failures: u32,
@@ -54,9 +54,9 @@ pub struct Client {
     pub(crate) newcomer: Newcomer,
     pub(crate) times: Times,
     pub(crate) cause: Option<io::Error>,
-    /// What its replies wait for. None: they were made since the worker last settled.
+    /// The number that its replies wait for. None: they were made since the worker last settled.
     pub(crate) due: Option<u64>,
-    /// Whether the client is in the list of those whose replies wait.
+    /// True if the client is in the list of those whose replies wait.
     is_awaiting: bool,
 }
 
@@ -101,7 +101,7 @@ impl Client {
         self.home
     }
 
-    /// How many pads it has joined.
+    /// Returns the number of pads it has joined.
     pub fn visits(&self) -> usize {
         self.party.session().room_count()
     }
@@ -111,7 +111,7 @@ impl Client {
         self.source.key
     }
 
-    /// Whether its connection counts as a client or as a request for a page.
+    /// Returns the kind that its connection counts as: a client or a request for a page.
     pub fn connected(&self) -> Connected {
         self.party.protocol().connected()
     }
@@ -156,12 +156,12 @@ impl Client {
         self.is_awaiting = false;
     }
 
-    /// Whether the client is one whose replies wait.
+    /// Returns true if the client is marked as one whose replies wait.
     pub fn is_awaiting(&self) -> bool {
         self.is_awaiting
     }
 
-    /// Whether replies wait to be written, including replies held back.
+    /// Returns true if replies wait to be written, including replies held back.
     pub fn owes(&self) -> bool {
         !self.party.replies().is_empty() || self.party.outbox_len() > 0
     }
@@ -174,7 +174,7 @@ impl Client {
             .saturating_add(self.party.outbox_len())
     }
 
-    /// Whether the client has to move to another worker now: it moves once its replies are written.
+    /// Returns true if the client has to move to another worker now: it moves once its replies are written.
     pub fn moves(&self) -> bool {
         self.moves && !self.owes()
     }
@@ -284,7 +284,7 @@ impl Client {
         until
     }
 
-    /// What holds the client back.
+    /// Returns the delay that holds the client back.
     pub fn delay(&self) -> Delay {
         self.delay
     }
@@ -302,7 +302,7 @@ impl Client {
         }
     }
 
-    /// Whether nothing is left to do for the client.
+    /// Returns true if nothing is left to do for the client.
     pub fn is_gone(&self) -> bool {
         match self.phase {
             Phase::Open | Phase::Ended => false,
@@ -327,7 +327,8 @@ impl Client {
         self.times.check(now, owes, patience, idle)
     }
 
-    // How long the client may be connected without logging in, or without sending a request, in milliseconds.
+    // Returns the time for which the client may be connected without logging in, or without sending a request, in
+    // milliseconds.
     fn patience(&self) -> Option<u64> {
         match (self.party.protocol(), self.party.session().who()) {
             (Protocol::Over, _) => None,

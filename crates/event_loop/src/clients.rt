@@ -22,7 +22,7 @@ pub struct Clients {
     pub later: Vec<usize>,
     /// The clients that may have replies to be written.
     pub owed: Vec<usize>,
-    /// Whether one of them has.
+    /// True if one of them has replies to be written.
     pub owes: bool,
     /// The clients that are held back, and the time at which the first is released, in milliseconds of a `Ticker`.
     pub held: Vec<usize>,
@@ -260,7 +260,7 @@ impl Clients {
     }
 }
 
-// Whether replies that wait for this number may be written.
+// Returns true if replies that wait for this number may be written.
 fn reaches<P>(reach: &Option<Reach<P>>, number: u64) -> bool {
     match reach {
         Some(reach) => number <= reach.number,

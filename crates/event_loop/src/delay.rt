@@ -1,4 +1,4 @@
-//! When clients are held back: by a pause around wrong tokens, or while they wait for a pad to change.
+//! The delays that hold clients back: a pause around wrong tokens, or a wait for a pad to change.
 ghost use Rattle.std.specs.Prelude.{◌≡◌};
 ghost use Rattle.event_loop.specs.Delays.{held_by};
 
@@ -14,7 +14,7 @@ use wire_json::read_request;
 /// The reply to a wrong token.
 pub const BAD_TOKEN: &[u8] = b"{\"code\":201,\"error\":\"BadToken\",\"ok\":false}\n";
 
-/// How long the first such reply is held back, and the longest pause, in milliseconds.
+/// The time for which the first such reply is held back, and the longest pause, in milliseconds.
 const FIRST_PAUSE: u64 = 100;
 
 const LONGEST_PAUSE: u64 = 3_000;
@@ -25,7 +25,7 @@ const MOST_SECONDS: u64 = 60;
 /// A longer line is never held back.
 const LONGEST_LINE: usize = 1_024;
 
-/// Whether a client is held back. Times are in milliseconds of a `Ticker`.
+/// The delay that holds a client back, if any. Times are in milliseconds of a `Ticker`.
 #[derive(Clone, Copy)]
 pub enum Delay {
     /// It is not held back.
@@ -51,7 +51,7 @@ impl Delay {
         }
     }
 
-    /// How many bytes of the replies, the last ones, are held back.
+    /// Returns the number of bytes of the replies, the last ones, that are held back.
     pub fn held(self) -> usize
         ensures { result ≡ held_by self }
     {
@@ -62,7 +62,7 @@ impl Delay {
     }
 }
 
-/// What a request waits for: a revision after `rev` of the pad at a cell, for at most this many seconds.
+/// The change that a request waits for: a revision after `rev` of the pad at a cell, for at most this many seconds.
 #[derive(Clone, Copy)]
 pub struct Wanted {
     pub cell: u32,
@@ -70,7 +70,7 @@ pub struct Wanted {
     pub seconds: u64,
 }
 
-/// How long the reply to the nth wrong token is held back, in milliseconds; None if it is not.
+/// Returns the time for which the reply to the nth wrong token is held back, in milliseconds; None if it is not.
 pub fn pause_after(failures: u32) -> Option<u64> {
     if failures < PATIENT {
         return None;
@@ -82,7 +82,7 @@ pub fn pause_after(failures: u32) -> Option<u64> {
     Some(pause.min(LONGEST_PAUSE))
 }
 
-/// Who a line claims to be.
+/// The author or peer that a line claims to be.
 #[derive(Drop)]
 pub enum LogIn {
     Author(Name),
@@ -98,7 +98,7 @@ impl fmt::Display for LogIn {
     }
 }
 
-/// Who a line logs in as, if it is a log-in.
+/// Returns the author or peer that a line logs in as, if it is a log-in.
 pub fn claim_in(alloc: Global, line: &[u8]) -> Option<LogIn> {
     match read_request(alloc, line) {
         Ok(Request::Hello { name, .. }) => Some(LogIn::Author(name)),
@@ -107,7 +107,7 @@ pub fn claim_in(alloc: Global, line: &[u8]) -> Option<LogIn> {
     }
 }
 
-/// What a line waits for, if it is a request that may be held back.
+/// Returns the change that a line waits for, if it is a request that may be held back.
 pub fn wanted_by(alloc: Global, line: &[u8], session: &Session) -> Option<Wanted> {
     if line.len() > LONGEST_LINE || !mentions_wait(line) {
         return None;
@@ -130,7 +130,7 @@ pub fn wanted_by(alloc: Global, line: &[u8], session: &Session) -> Option<Wanted
     }
 }
 
-// Whether a line has the field at all, so that other lines are not parsed twice.
+// Returns true if a line has the field at all, so that other lines are not parsed twice.
 fn mentions_wait(line: &[u8]) -> bool {
     match str::from_utf8(line) {
         Ok(text) => text.contains("\"wait\""),

@@ -1,5 +1,5 @@
-//! What the threads of a server share: how to reach each worker, the number of clients, and whether the server is
-//! ending.
+//! The state that the threads of a server share: the way to reach each worker, the number of clients, and whether the
+//! server is ending.
 use crate::arrivals::Arrival;
 use crate::delay::{Delay, Wanted};
 use crate::limits::PAGE_REQUESTS;
@@ -14,21 +14,21 @@ use std::sync::atomic::{AtomicBool, AtomicU64, Ordering};
 use std::sync::{Arc, Wait};
 use std::time::Instant;
 
-/// How to reach a worker.
+/// The way to reach a worker.
 #[derive(Drop)]
 pub struct Door {
     to: Sender<Arrival>,
     waker: Waker,
     /// The number of its clients, including those on their way to it or at the worker for long lines.
     clients: AtomicU64,
-    /// Whether it is running: the system may have created no thread for it.
+    /// True if it is running: the system may have created no thread for it.
     is_open: AtomicBool,
     /// The cells whose pads it watches, and those whose pads have changed since it last looked.
     wanted: CellSet,
     moved: CellSet,
-    /// Whether it was told that a pad has changed, and has not yet looked.
+    /// True if it was notified that a pad has changed, and has not yet looked.
     is_told: AtomicBool,
-    /// Whether replies of its clients wait, so that it is to be woken when they may go further.
+    /// True if replies of its clients wait, so that it is to be woken when they may go further.
     awaits: AtomicBool,
 }
 
@@ -53,7 +53,7 @@ impl Door {
     }
 }
 
-/// How a connection counts.
+/// The kind that a connection counts as.
 #[derive(Clone, Copy, PartialEq, Eq)]
 pub enum Connected {
     /// A client, which speaks lines or has a socket.
@@ -62,19 +62,19 @@ pub enum Connected {
     PageRequest,
 }
 
-/// What the threads of a server share.
+/// The state that the threads of a server share.
 #[derive(Drop)]
 pub struct Hub {
     /// The last one is that of the worker for long lines.
     doors: Vec<Door>,
     acceptor: Waker,
-    /// When the server started; None if the clock failed.
+    /// The time at which the server started; None if the clock failed.
     began: Option<Instant>,
     /// The number of connected clients: those that speak lines, and the sockets of browsers.
     clients: AtomicU64,
     /// The number of HTTP requests being read or answered.
     page_requests: AtomicU64,
-    /// Whether the server has stopped accepting connections.
+    /// True if the server has stopped accepting connections.
     is_closed: AtomicBool,
     has_stopped: AtomicBool,
     /// The clients that have not logged in.
@@ -114,22 +114,22 @@ impl Hub {
         }
     }
 
-    /// What is counted of the clients, for those who watch the server.
+    /// Returns the counts of the clients, for those who watch the server.
     pub fn counts(&self) -> &ClientCounts {
         &self.counts
     }
 
-    /// How many clients are connected.
+    /// Returns the number of connected clients.
     pub fn clients(&self) -> u64 {
         self.clients.load(Ordering::SeqCst)
     }
 
-    /// How many requests of browsers are read or answered.
+    /// Returns the number of requests of browsers that are read or answered.
     pub fn page_requests(&self) -> u64 {
         self.page_requests.load(Ordering::SeqCst)
     }
 
-    /// When the server started.
+    /// Returns the time at which the server started.
     pub fn began(&self) -> Option<Instant> {
         self.began
     }
@@ -139,12 +139,12 @@ impl Hub {
         &self.lobby
     }
 
-    /// Whether there is room for one more client, with at most `most` in all.
+    /// Returns true if there is room for one more client, with at most `most` in all.
     pub fn has_room(&self, most: u32) -> bool {
         self.clients.load(Ordering::SeqCst) < u64::from(most)
     }
 
-    /// Whether there is room for one more request over HTTP.
+    /// Returns true if there is room for one more request over HTTP.
     pub fn has_room_for_page_request(&self) -> bool {
         self.page_requests.load(Ordering::SeqCst) < u64::from(PAGE_REQUESTS)
     }
@@ -156,7 +156,7 @@ impl Hub {
         }
     }
 
-    /// Whether a worker is running.
+    /// Returns true if a worker is running.
     pub fn is_open(&self, place: usize) -> bool {
         match self.doors.get(place) {
             Some(door) => door.is_open.load(Ordering::SeqCst),
@@ -265,17 +265,18 @@ impl Hub {
         let _woken = self.acceptor.wake();
     }
 
-    /// Whether the server was stopped.
+    /// Returns true if the server was stopped.
     pub fn has_stopped(&self) -> bool {
         self.has_stopped.load(Ordering::SeqCst)
     }
 
-    /// Whether the workers have nothing left to do.
+    /// Returns true if the workers have nothing left to do.
     pub fn is_over(&self) -> bool {
         self.has_stopped() || self.is_closed.load(Ordering::SeqCst) && self.is_empty()
     }
 
-    // Whether there are no connections. A browser that becomes a client is briefly counted twice, but never left out.
+    // Returns true if there are no connections. A browser that becomes a client is briefly counted twice, but never
+    // left out.
     fn is_empty(&self) -> bool {
         self.page_requests.load(Ordering::SeqCst) == 0 && self.clients.load(Ordering::SeqCst) == 0
     }
@@ -297,8 +298,8 @@ impl Hub {
         }
     }
 
-    /// Whether pads that a worker watches have changed since it last looked. It stops watching them until it asks
-    /// again.
+    /// Returns true if pads that a worker watches have changed since it last looked. It stops watching them until it
+    /// asks again.
     pub fn take_moved(&self, place: usize) -> bool {
         let Some(door) = self.doors.get(place) else {
             return false;
@@ -310,8 +311,8 @@ impl Hub {
         true
     }
 
-    /// Whether a request has to wait, because the pad is still at the revision that it names. The worker will be told
-    /// when the pad changes.
+    /// Returns true if a request has to wait, because the pad is still at the revision that it names. The worker will
+    /// be notified when the pad changes.
     ///
     /// The worker starts to watch the cell before it compares, and a pad's revision grows before the watching workers
     /// are looked up. So one of the two sees the other.
@@ -341,7 +342,7 @@ impl Hub {
         }
     }
 
-    /// Whether wrong tokens may be reported now, which is once a second. If so, they count as reported.
+    /// Returns true if wrong tokens may be reported now, which is once a second. If so, they count as reported.
     pub fn may_report(&self, now: u64) -> bool {
         let from = self.report_from.load(Ordering::SeqCst);
         let next = now.saturating_add(REPORTS);
@@ -352,7 +353,7 @@ impl Hub {
                 .is_ok()
     }
 
-    /// Whether a client stays held back, apart from its time limit.
+    /// Returns true if a client stays held back, apart from its time limit.
     pub fn holds(&self, place: usize, delay: Delay) -> bool {
         match delay {
             Delay::Pause { .. } | Delay::LogIn { .. } => true,

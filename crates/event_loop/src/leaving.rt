@@ -1,4 +1,4 @@
-//! How a client leaves a worker: it moves to another one, or it ends.
+//! A client leaves a worker: it moves to another one, or it ends.
 use crate::arrivals::Arrival;
 use crate::client::Client;
 use crate::clients::{Clients, NotServed};

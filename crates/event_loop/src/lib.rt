@@ -2,7 +2,7 @@
 //!
 //! It depends on `conversation`, which answers the lines of a connection, on `web_wire`, which turns what browsers send into
 //! lines, on `admission`, which counts wrong tokens, and on `mio`, which reports when sockets are ready. It knows nothing
-//! of stores and command lines: a `Settle` is what replies wait for.
+//! of stores and command lines: a `Settle` is the condition that replies wait for.
 #![tactic(auto)]
 
 mod accept;

@@ -11,7 +11,7 @@ pub struct Limits {
     pub per_address: Option<u32>,
     /// The most seconds from one line of a client to the next. None: no limit.
     pub idle: Option<u32>,
-    /// Whether each log-in is logged.
+    /// True if each log-in is logged.
     pub logs_access: bool,
 }
 
@@ -43,13 +43,13 @@ pub const LONG_LINE: usize = 65_536;
 /// The most bytes of one read.
 pub const CHUNK: usize = 65_536;
 
-/// How long a client may leave its replies unread, in milliseconds.
+/// The time for which a client may leave its replies unread, in milliseconds.
 pub const PATIENCE: u64 = 30_000;
 
-/// How long a client has to log in, in milliseconds.
+/// The time that a client has to log in, in milliseconds.
 pub const LOG_IN: u64 = 60_000;
 
-/// How long a browser has to send its request, in milliseconds.
+/// The time that a browser has to send its request, in milliseconds.
 pub const REQUEST: u64 = 10_000;
 
 /// The most HTTP requests that are read or answered at once. They do not count as clients.

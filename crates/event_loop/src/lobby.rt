@@ -1,4 +1,5 @@
-//! What the threads of a server share about clients that have not logged in, and about where connections come from.
+//! The state that the threads of a server share about clients that have not logged in, and about the sources of
+//! connections.
 use crate::limits::MOST_LONG;
 use admission::{Connections, WrongTokens};
 use pad_model::Name;
@@ -9,7 +10,7 @@ use std::sync::{Mutex, Wait};
 /// The number of the first wrong token that makes later log-ins wait.
 pub const PATIENT: u32 = 3;
 
-/// How many wrong tokens there were, with the one that was noted.
+/// The counts of wrong tokens, including the one that was noted.
 #[derive(Clone, Copy)]
 pub struct Noted {
     /// Those of its address, in the last ten minutes or so.
@@ -27,7 +28,7 @@ pub struct Lobby {
     newcomers: AtomicU64,
     /// The number of these that may send a line beyond `UNFINISHED` bytes.
     long: AtomicU64,
-    /// Whether there has been a wrong token.
+    /// True if there has been a wrong token.
     has_wrong: AtomicBool,
     wrong: Mutex<WrongTokens>,
     connections: Mutex<Connections>,
@@ -45,7 +46,7 @@ impl Lobby {
         })
     }
 
-    /// Whether there is room for one more client that has not logged in, with at most `most` in all.
+    /// Returns true if there is room for one more client that has not logged in, with at most `most` in all.
     pub fn has_room(&self, most: u32) -> bool {
         self.newcomers.load(Ordering::SeqCst) < u64::from(most)
     }
@@ -94,12 +95,12 @@ impl Lobby {
         self.connections.lock(rt).leave(address);
     }
 
-    /// How many wrong tokens came from an address lately.
+    /// Returns the number of wrong tokens that came from an address lately.
     pub fn wrong_of<R: Wait>(&self, rt: &R, address: u128, now: u64) -> u32 {
         self.wrong.lock(rt).of_address(address, now)
     }
 
-    /// Whether there has been a wrong token at all. As long as there was none, no log-in is looked at twice.
+    /// Returns true if there has been a wrong token at all. As long as there was none, no log-in is looked at twice.
     pub fn has_wrong(&self) -> bool {
         self.has_wrong.load(Ordering::SeqCst)
     }

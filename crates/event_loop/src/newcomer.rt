@@ -12,16 +12,16 @@ use pad_model::Who;
 use std::alloc::Global;
 use std::sync::Wait;
 
-/// What is kept about a client because it has not logged in.
+/// The state that is kept about a client because it has not logged in.
 #[derive(Clone, Copy)]
 pub struct Newcomer {
-    /// Whether the lobby counts it.
+    /// True if the lobby counts it.
     pub is_counted: bool,
     /// The bytes that have come since its last whole line.
     pub unfinished: usize,
-    /// Whether it is one of those that may send a long line.
+    /// True if it is one of those that may send a long line.
     pub may_be_long: bool,
-    /// Whether it is not read until it may send a long line.
+    /// True if it is not read until it may send a long line.
     pub is_stalled: bool,
 }
 
@@ -43,7 +43,7 @@ impl Newcomer {
 }
 
 impl Client {
-    /// Whether nobody has logged in.
+    /// Returns true if nobody has logged in.
     pub(crate) fn is_nobody(&self) -> bool
         ensures { result ≡ is_nobody self.now.party.session.who }
     {
@@ -75,7 +75,7 @@ impl Client {
         None
     }
 
-    /// Notes that a line was answered: what waits now is the beginning of the next one.
+    /// Notes that a line was answered: the bytes that wait now are the beginning of the next one.
     pub(crate) fn note_answered(&mut self) {
         self.newcomer.unfinished = self.waiting();
     }
@@ -130,7 +130,7 @@ impl Client {
         self.queue()
     }
 
-    /// Whether the next line may be a log-in, after wrong tokens have come to the server.
+    /// Returns true if the next line may be a log-in, after wrong tokens have come to the server.
     pub(crate) fn is_knocking(&self, alloc: Global, lobby: &Lobby) -> bool {
         if !lobby.has_wrong() || !self.is_nobody() {
             return false;

@@ -13,7 +13,7 @@ const KEPT_IDLE: usize = 256;
 #[derive(Drop)]
 pub struct Outbox {
     pub bytes: Vec<u8>,
-    /// How many of them were already written.
+    /// The number of them that were already written.
     pub sent: usize,
 }
 

@@ -1,5 +1,5 @@
-//! What a client is: its socket, what it speaks, its conversation and its session. Nothing else can change these, so
-//! whatever a worker does, what the socket gave and what it got is a course of the client's session.
+//! A client: its socket, its protocol, its conversation and its session. Nothing else can change these, so whatever a
+//! worker does, the bytes that the socket gave and those that it got are a course of the client's session.
 ghost use Rattle.std.specs.Prelude.{◌≡◌, ◌≢◌, ◌⊎◌, ◌<◌, ◌≤◌, [], true, false, drop, length, min, nat_le, Ok, IfErr, IfOk, IfSome, IfNone, OnOk};
 ghost use Rattle.conversation.specs.ThreadSession.{EndsRow, lent};
 ghost use Rattle.conversation.specs.Talk.{silent};
@@ -30,7 +30,7 @@ use std::net::SocketAddr;
 use std::sync::Wait;
 use wire_lines::{Fault, MAX_LINE};
 
-/// How far a client is.
+/// The stage that a client has reached.
 #[derive(Clone, Copy, Debug, PartialEq, Eq)]
 pub enum Stage {
     /// It is read and answered.
@@ -52,7 +52,7 @@ pub struct Party<K: ByteSocket> {
     outbox: Outbox,
     conversation: Conversation,
     session: Session,
-    /// Why the user of its request was no author, until the worker has noted it.
+    /// The reason why the user of its request was no author, until the worker has noted it.
     stranger: Option<Stranger>,
 }
 
@@ -204,7 +204,7 @@ impl<K: ByteSocket> Party<K> {
         socket
     }
 
-    /// Whether a line waits to be answered: a whole one, or one that is too long.
+    /// Returns true if a line waits to be answered: a whole one, or one that is too long.
     pub fn has_line(&self) -> bool {
         self.conversation.first_line().is_some() || self.conversation.waiting() > MAX_LINE
     }
@@ -218,7 +218,7 @@ impl<K: ByteSocket> Party<K> {
         self.conversation.first_line()
     }
 
-    /// Whether any byte follows the first line.
+    /// Returns true if any byte follows the first line.
     pub fn has_second(&self) -> bool {
         self.conversation.has_second()
     }
@@ -230,7 +230,7 @@ impl<K: ByteSocket> Party<K> {
         self.conversation.waiting()
     }
 
-    /// Whether a line was too long, after which no further line is answered.
+    /// Returns true if a line was too long, after which no further line is answered.
     pub fn is_cut(&self) -> bool
         ensures { result ≡ self.now.talk.cut }
     {
@@ -251,21 +251,21 @@ impl<K: ByteSocket> Party<K> {
         self.outbox.len()
     }
 
-    /// What the client speaks.
+    /// Returns the protocol that the client speaks.
     pub fn protocol(&self) -> &Protocol
         ensures { result.now ≡ self.now.protocol }
     {
         &self.protocol
     }
 
-    /// Who the client is, and which pads it has joined.
+    /// Returns the session: the client's identity, and the pads it has joined.
     pub fn session(&self) -> &Session
         ensures { result.now ≡ self.now.session }
     {
         &self.session
     }
 
-    /// How far the client is.
+    /// Returns the stage that the client has reached.
     pub fn stage(&self) -> Stage
         ensures { result ≡ self.now.stage }
     {

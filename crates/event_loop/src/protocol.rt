@@ -20,7 +20,7 @@ pub enum Protocol {
 }
 
 impl Protocol {
-    /// Whether its connection counts as a client or as a request for a page.
+    /// Returns the kind that its connection counts as: a client or a request for a page.
     pub fn connected(&self) -> Connected {
         match self {
             Protocol::Lines | Protocol::Socket(_) => Connected::Client,

@@ -13,7 +13,7 @@ impl Rarely {
         Rarely { every, last: None }
     }
 
-    /// Whether a message may be logged now; `now` is in milliseconds of a `Ticker`. If so, it counts as logged.
+    /// Returns true if a message may be logged now; `now` is in milliseconds of a `Ticker`. If so, it counts as logged.
     pub fn is_due(&mut self, now: u64) -> bool {
         let is_due = match self.last {
             Some(last) => now.saturating_sub(last) >= self.every,

@@ -1,4 +1,5 @@
-//! Whether a read of a client's socket may give something, by what its poll reported and what the last read brought.
+//! The readiness of a client's socket: whether a read may give something, by the reports of its poll and the result of
+//! the last read.
 //!
 //! `mio` reports by edge-triggered epoll: a socket is reported again once more bytes come, or its end, or a failure. A
 //! read of a stream that brings fewer bytes than there was room for has taken all that had come by then (epoll(7)). What
@@ -8,13 +9,13 @@
 //! urgent bytes, at which a read stops short. Once one of them was reported, or a failure, reads go on until one is blocked.
 ghost use Rattle.std.specs.Prelude.{◌≡◌, ◌<◌, true, false};
 
-/// Whether a read of a socket may give something.
+/// The readiness of a socket: whether a read may give something.
 #[derive(Clone, Copy)]
 pub struct Readiness {
     is_readable: bool,
-    /// Whether the last read took all that had come.
+    /// True if the last read took all that had come.
     is_drained: bool,
-    /// Whether a short read may have left something that is not reported again.
+    /// True if a short read may have left something that is not reported again.
     reads_on: bool,
 }
 
@@ -56,14 +57,15 @@ impl Readiness {
         self.is_readable = false;
     }
 
-    /// Whether a read may give something, as far as is known.
+    /// Returns true if a read may give something, as far as is known.
     pub fn is_readable(&self) -> bool
         ensures { result ≡ self.now.is_readable }
     {
         self.is_readable
     }
 
-    /// Whether to read now. If the last read took all that had come, the next one counts as blocked without being made.
+    /// Returns true if a read is to be made now. If the last read took all that had come, the next one counts as
+    /// blocked without being made.
     pub fn takes_read(&mut self) -> bool
         ensures readable { result ≡ self.new.is_readable }
         ensures blocked { self.old.is_drained ≡ true → result ≡ false }

@@ -1,4 +1,4 @@
-//! Whose request it is, by the accounts file.
+//! The user of a request, by the accounts file.
 ghost use Rattle.std.specs.Prelude.{◌≡◌, true, Ok, Err, IfOk, MatchResult, option_map, string_bytes};
 ghost use Rattle.wire_json.specs.Replies.{line_of};
 ghost use Rattle.event_loop.specs.Users.{IsRequestUser, IsStranger, IsUserLine};
@@ -16,7 +16,7 @@ pub struct Authors<'a> {
     pub replica: u16,
 }
 
-/// Whose request it is.
+/// The user of a request.
 #[derive(Drop)]
 pub(crate) enum RequestUser {
     /// It names no user.
@@ -27,7 +27,7 @@ pub(crate) enum RequestUser {
     Stranger(Stranger),
 }
 
-/// Why a user is no author, in words.
+/// Returns the reason, in words, why a user is no author.
 pub(crate) fn words_of(stranger: &Stranger) -> &'static [u8] {
     match stranger {
         Stranger::NoLine =>
@@ -87,7 +87,7 @@ fn or_memory(line: Result<String, Refusal>) -> Result<String, AllocError>
     }
 }
 
-/// Whose request it is that names this user.
+/// Returns the `RequestUser` of a request that names this user.
 #[tactic(auto, unfolding(crate::specs::Users::author_of))]
 pub(crate) fn user_of_request(
     alloc: Global,

@@ -125,7 +125,7 @@ impl Client {
         }
     }
 
-    // Whether the client is at the worker for long lines without having one, or elsewhere although it has one.
+    // Returns true if the client is at the worker for long lines without having one, or elsewhere although it has one.
     fn is_misplaced(&self, hub: &Hub, place: usize) -> bool {
         let long_lines = hub.long_lines();
         if place == long_lines {
@@ -134,7 +134,7 @@ impl Client {
         self.is_long() && hub.is_open(long_lines)
     }
 
-    // Whether the first waiting line is a long one.
+    // Returns true if the first waiting line is a long one.
     fn is_long(&self) -> bool {
         self.party.waiting() > LONG_LINE
             && match self.party.first_line() {
@@ -179,7 +179,7 @@ impl Client {
         }
     }
 
-    // Who the first line logs in as, if nobody has logged in yet and the line is short.
+    // Returns the author or peer that the first line logs in as, if nobody has logged in yet and the line is short.
     fn claim(&self, alloc: Global) -> Option<LogIn> {
         if !self.is_nobody() {
             return None;

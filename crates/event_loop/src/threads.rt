@@ -12,7 +12,7 @@ use std::net::{Net, TcpListener};
 use std::sync::atomic::AtomicU64;
 use std::time::{Clock, Instant};
 
-/// What the threads of a server share, and what each of them owns.
+/// The state that the threads of a server share, and the parts that each of them owns.
 #[derive(Drop)]
 pub struct SetUp {
     pub hub: Hub,
@@ -59,7 +59,7 @@ fn make_worker<R: AllocGlobal + Net>(
     Ok((Door::new(alloc, to, waker, cells)?, worker))
 }
 
-// What the threads share, with these doors.
+// Makes the state that the threads share, with these doors.
 fn make_hub<R: AllocGlobal + Clock>(
     rt: &R,
     doors: Vec<Door>,

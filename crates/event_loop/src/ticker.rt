@@ -31,7 +31,8 @@ impl Ticker {
         self.now
     }
 
-    /// Whether the clock is to be read in this turn: nothing was reported, or it has not been read for some turns.
+    /// Returns true if the clock is to be read in this turn: nothing was reported, or it has not been read for some
+    /// turns.
     pub fn is_due(&mut self, was_idle: bool) -> bool {
         self.turns = self.turns.saturating_add(1);
         was_idle || self.turns >= TURNS

@@ -13,10 +13,9 @@ pub enum Late {
     Nobody,
 }
 
-/// When a client was last active, in milliseconds of a `Ticker`.
+/// The times at which a client was last active, in milliseconds of a `Ticker`.
 ///
-/// What happens between two checks sets a flag, and gets the time of the next check. So it needs no reading of the
-/// clock.
+/// An event between two checks sets a flag, and gets the time of the next check. So it needs no reading of the clock.
 #[derive(Clone, Copy)]
 pub struct Times {
     came: Option<u64>,

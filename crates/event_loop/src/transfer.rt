@@ -69,7 +69,7 @@ pub enum Transfer {
     Over,
 }
 
-/// Why a client can no longer be served.
+/// The reason why a client can no longer be served.
 #[derive(Clone, Copy)]
 pub struct BrokenSocket {
     pub fault: Fault,

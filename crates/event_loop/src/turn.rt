@@ -69,7 +69,7 @@ where
     write(service, worker, clients, pads, &reach)
 }
 
-// How long to wait for events. None: without limit, since there are no clients with time limits.
+// Returns the time to wait for events. None: without limit, since there are no clients with time limits.
 fn timeout_of<C: Clock>(rt: &C, clients: &Clients, ticker: &mut Ticker) -> Option<Duration> {
     if !clients.queue.is_empty() || !clients.owed.is_empty() {
         return Some(Duration::from_millis(0));
@@ -82,7 +82,7 @@ fn timeout_of<C: Clock>(rt: &C, clients: &Clients, ticker: &mut Ticker) -> Optio
     Some(Duration::from_millis(most))
 }
 
-// Receives what was sent to the worker.
+// Receives the messages to the worker.
 fn receive<S, R, G, T>(
     service: &Service<'_, S, R, G, T>,
     worker: &mut Worker,

@@ -28,7 +28,7 @@ use web_wire::Site;
 /// The most events that one poll takes.
 const EVENTS: usize = 512;
 
-/// What all workers of a server share: what they serve, and their limits.
+/// The state that all workers of a server share: what they serve, and their limits.
 #[derive(Drop)]
 pub struct Service<'a, S: Sequence, R: Wait, G: Gate, T: Settle> {
     pub row: &'a PadTable<'a, S, R, G>,
@@ -39,7 +39,7 @@ pub struct Service<'a, S: Sequence, R: Wait, G: Gate, T: Settle> {
     pub site: Site<'a>,
 }
 
-/// What a worker owns.
+/// The state that a worker owns.
 #[derive(Drop)]
 pub struct Worker {
     pub(crate) place: usize,

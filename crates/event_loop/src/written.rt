@@ -1,4 +1,4 @@
-//! What is written to a client.
+//! The bytes that are written to a client.
 ghost use Rattle.std.specs.Prelude.{◌≡◌, ◌≤◌, false, length, min};
 ghost use Rattle.event_loop.specs.Delays.{held_by};
 ghost use Rattle.event_loop.specs.Waits as waits;
@@ -16,7 +16,7 @@ use wire_lines::Fault;
 const WRITES: u32 = 16;
 
 impl Client {
-    /// Writes as many replies as the socket takes, unless they wait for more than what is settled. The reply to a wrong
+    /// Writes as many replies as the socket takes, unless they wait for more than is settled. The reply to a wrong
     /// token stays, as long as it is held back.
     pub fn write<T: Settle>(&mut self, reach: &Reach<T::Settled>)
         ensures held { min (held_by self.old.delay) (length self.old.party.talk.replies)

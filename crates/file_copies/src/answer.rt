@@ -1,4 +1,4 @@
-//! What a standby answers.
+//! The answers of a standby.
 ghost use Rattle.std.specs.Prelude.{◌≡◌, ◌≢◌, ℕ, IfNone, IfOk, IfSome, option_and_then, string_bytes};
 ghost use Rattle.file_copies.specs.declared.answer.StandbyAnswer.TheVariants as answer;
 ghost use Rattle.serde_json.specs.View.{view};
@@ -12,12 +12,12 @@ use sessions::Word;
 use std::alloc::{AllocError, Global};
 use wire_json::{name_field, number_field, str_field};
 
-/// What a standby answers.
+/// An answer of a standby.
 #[derive(Debug, Drop)]
 pub enum StandbyAnswer {
     /// The copy of a pad's file has `bytes` bytes, and its last line has this sum.
     Copy { pad: Name, bytes: u64, sum: Word },
-    /// All copies have been told; or the standby is promoted.
+    /// All copies have been reported; or the standby is promoted.
     Told,
     /// Everything up to this mark is on the disk.
     Kept { mark: u64 },
@@ -41,7 +41,7 @@ impl HeardMark {
 }
 
 impl StandbyAnswer {
-    /// What the answer confirms, if it confirms anything.
+    /// Returns the mark that the answer confirms, if it confirms one.
     pub fn heard(&self) -> Option<HeardMark>
         ensures some { IfSome result (λ heard. self.now ≡ answer.Kept heard.mark) }
         ensures none { IfNone result ((mark : ℕ) → self.now ≢ answer.Kept mark) }
@@ -54,7 +54,7 @@ impl StandbyAnswer {
     }
 }
 
-/// The line that tells how far the copy of a pad's file is.
+/// The line that reports the progress of the copy of a pad's file.
 pub fn copy_line(alloc: Global, pad: &Name, bytes: u64, sum: &str) -> Result<String, AllocError>
     ensures { IfOk result (λ line. string_bytes line ≡ line_of (copy_data pad.now bytes sum.now)) }
 {
@@ -68,7 +68,7 @@ fn copy_value(alloc: Global, pad: &Name, bytes: u64, sum: &str) -> Result<Value,
     json!(in alloc; {"bytes": bytes, "pad": pad.as_str(), "sum": sum})
 }
 
-/// The line behind those of all copies. It also answers a promotion.
+/// The line after those of all copies. It also answers a promotion.
 pub fn told_line(alloc: Global) -> Result<String, AllocError>
     ensures { IfOk result (λ line. string_bytes line ≡ line_of told_data) }
 {
@@ -82,7 +82,7 @@ fn told_value(alloc: Global) -> Result<Value, AllocError>
     json!(in alloc; {"ok": true})
 }
 
-/// The line that tells that everything up to a mark is on the disk.
+/// The line that reports that everything up to a mark is on the disk.
 pub fn kept_line(alloc: Global, mark: u64) -> Result<String, AllocError>
     ensures { IfOk result (λ line. string_bytes line ≡ line_of (kept_data mark)) }
 {

@@ -1,5 +1,5 @@
-//! What a copy has of a file, whatever stretches were sent, repeated or lost, and what a crash leaves of it. Each law is
-//! the contract of a function without parameters.
+//! The contents of a copy of a file, whatever stretches were sent, repeated or lost, and its remains after a crash.
+//! Each law is the contract of a function without parameters.
 ghost use Rattle.file_copies.specs.Laws.{CopyCrashLaw, CopyLaw, LogLaw, StretchLaw};
 
 /// Whole lines, each linked to the one before it, are the lines of some texts.
@@ -12,12 +12,13 @@ pub fn copy_law()
     ensures { CopyLaw }
 {}
 
-/// What a crash leaves of a copy is what a crash could leave of the file itself.
+/// The remains of a copy after a crash are remains that a crash could leave of the file itself.
 pub fn copy_crash_law()
     ensures { CopyCrashLaw }
 {}
 
-/// A copy that is completed from the log of its stretches is what it was, whatever a crash left behind what was synced.
+/// A copy that is completed from the log of its stretches equals the earlier copy, whatever a crash left after the
+/// synced bytes.
 pub fn log_law()
     ensures { LogLaw }
 {}

@@ -7,15 +7,15 @@ use crate::stretch::stretch_sum;
 use std::alloc::{AllocError, Global};
 use thiserror::Error;
 
-/// The copy of a pad's file: how many bytes it has, and the sum of its last line. A copy that has nothing yet has no bytes
-/// and the empty sum.
+/// The copy of a pad's file: the number of its bytes, and the sum of its last line. A copy that has nothing yet has no
+/// bytes and the empty sum.
 #[derive(Debug, Drop)]
 pub struct PadCopy {
     length: u64,
     sum: String,
 }
 
-/// Why bytes are not appended to a copy.
+/// The reason bytes are not appended to a copy.
 #[derive(Clone, Copy, Debug, PartialEq, Eq, Error)]
 pub enum NoStretch {
     #[error("out of memory")]
@@ -62,8 +62,8 @@ impl PadCopy {
         self.sum.as_str()
     }
 
-    /// The copy with a stretch of the file behind it, which begins at byte `from` of the file. Nothing is appended to a
-    /// file here: whoever keeps the copy does so, and then uses what this returns.
+    /// Returns the copy followed by a stretch of the file, which begins at byte `from` of the file. Nothing is appended
+    /// to a file here: the keeper of the copy does so, and then uses the returned copy.
     pub fn followed_by(&self, alloc: Global, from: u64, lines: &[u8]) -> Result<PadCopy, NoStretch>
         ensures { MatchResult result (Follows from lines.now self.now) (IsRefused from lines.now self.now) }
     {

@@ -1,5 +1,4 @@
-//! What is asked of a standby: lines of JSON, each answered by one or more lines, and the bytes of files
-//! between them.
+//! The requests to a standby: lines of JSON, each answered by one or more lines, and the bytes of files between them.
 ghost use Rattle.std.specs.Prelude.{◌≡◌, IfOk, codes, string_bytes};
 ghost use Rattle.serde_json.specs.View.{view};
 ghost use Rattle.wire_json.specs.Reading.{IsLine, IsRead};
@@ -11,12 +10,12 @@ use serde_json::{Value, json};
 use std::alloc::{AllocError, Global};
 use wire_json::{name_field, number_field, str_field};
 
-/// What is asked of a standby: by its main server, or by whoever promotes it.
+/// A request to a standby, by its main server or by whoever promotes it.
 #[derive(Debug, Drop)]
 pub enum StandbyRequest {
-    /// How far each copy is. Answered by a line for each, and one behind them.
+    /// Asks for the progress of each copy. Answered by a line for each, and one after them.
     Copies,
-    /// Behind this line come `bytes` bytes of the file of `pad`, which stand there from byte `from` on. Not answered.
+    /// After this line come `bytes` bytes of the file of `pad`, which stand there from byte `from` on. Not answered.
     Keep { pad: Name, from: u64, bytes: u64 },
     /// Everything so far is to be on the disk before this is answered. It belongs to `mark`.
     Sync { mark: u64 },

@@ -1,4 +1,4 @@
-//! A round: stretches of the files of pads, each behind the line that announces it.
+//! A round: stretches of the files of pads, each after the line that announces it.
 ghost use Rattle.std.specs.Prelude.{◌≡◌, ◌++◌, IfOk, OnOk};
 ghost use Rattle.file_copies.specs.Rounds.{round_bytes, stretch_bytes};
 
@@ -14,8 +14,8 @@ pub struct FileStretch {
     pub lines: Vec<u8>,
 }
 
-/// Adds bytes of a pad's file to those of a round, behind the line that announces them. They stand in the file from byte `from`
-/// on.
+/// Adds bytes of a pad's file to those of a round, after the line that announces them. They stand in the file from byte
+/// `from` on.
 pub fn put_stretch(
     alloc: Global,
     round: &mut Vec<u8>,

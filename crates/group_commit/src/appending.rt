@@ -20,7 +20,8 @@ pub trait Device: Write {
         ensures synced { OnOk result (Self.synced self.new ≡ Self.contents self.new) };
 }
 
-/// Why notes are not known to be on the disk. The file may hold a part of their lines, and is not to be written any more.
+/// The reason notes are not known to be on the disk. The file may hold a part of their lines, and is not to be written
+/// any more.
 #[derive(Debug)]
 pub enum Uncommitted {
     Unwritten(io::Error),
@@ -39,8 +40,8 @@ pub struct Committed {
     pub(crate) cell: u32,
 }
 
-/// Appends the lines of notes to a pad's file, behind what its writer has still to write, and syncs it. The file gets one
-/// piece of bytes. `together` tells whether the first line is written together with one that is not yet synced.
+/// Appends the lines of notes to a pad's file, after those that its writer has still to write, and syncs it. The file
+/// gets one piece of bytes. `together` is true if the first line is written together with one that is not yet synced.
 pub fn append<D: Device>(
     alloc: Global,
     writer: &mut PadWriter,

@@ -16,15 +16,15 @@ use std::time::{Clock, Duration};
 /// The most times that a thread yields before a round, so that others' notes join its own.
 const LOOKS: u32 = 16;
 
-/// Who appends notes to the files of pads.
+/// Appends notes to the files of pads.
 pub trait Commit {
-    /// Appends the notes of a cell to its file by `append`, and tells of a failure. At most one thread calls it for a cell
-    /// at a time.
+    /// Appends the notes of a cell to its file by `append`, and reports a failure. At most one thread calls it for a
+    /// cell at a time.
     fn commit(&self, notes: Notes) -> io::Result<Committed>
         ensures { IfOk result (λ done. done.cell ≡ notes.cell) };
 }
 
-/// How many notes there are.
+/// The numbers of notes.
 #[derive(Clone, Copy)]
 pub struct NoteCounts {
     /// All of them since the start.
@@ -63,8 +63,8 @@ impl Commits {
         })
     }
 
-    /// Notes what a request leaves at a cell. It is called under the lock of the cell's pad, so that the notes have the
-    /// order of the steps. After a failure nothing is settled any more.
+    /// Notes the records that a request leaves at a cell. It is called under the lock of the cell's pad, so that the
+    /// notes have the order of the steps. After a failure nothing is settled any more.
     pub fn note<R: Wait>(&self, rt: &R, cell: u32, note: Note) -> Result<(), Unnoted>
         ensures queued { OnOk result (WasQueued cell note) }
         ensures failed { OnErr result NothingSettles }
@@ -73,7 +73,7 @@ impl Commits {
             Some(queue) => queue.lock(rt).push(cell, note),
             None => Err(Unnoted::NoCell { cell }),
         };
-        // A note is counted behind its place in the queue: who counts with it can be sure that it is there.
+        // A note is counted only after it is in the queue, so every counted note is there.
         match queued {
             Ok(noted) => {
                 let counted = self.progress.lock(rt).count(noted);
@@ -98,12 +98,12 @@ impl Commits {
         self.ended.notify_all();
     }
 
-    /// Whether something could not be kept, after which nothing is settled.
+    /// Returns true if something could not be kept, after which nothing is settled.
     pub fn has_failed(&self) -> bool {
         self.has_failed.load(Ordering::SeqCst)
     }
 
-    /// How many notes there are, and how many of them are on the disk.
+    /// Returns the number of notes, and the number of those that are on the disk.
     pub fn counts<R: Wait>(&self, rt: &R) -> NoteCounts {
         let progress = self.progress.lock(rt);
         NoteCounts {

@@ -1,22 +1,22 @@
-//! How much of what is noted a standby has, and what replies wait for.
+//! The notes that a standby has, and the condition that replies wait for.
 ghost use Rattle.std.specs.Prelude.{◌≡◌, ℕ, None, Some, false, is_some, IfSome};
 ghost use Rattle.group_commit.specs.Confirmations.{AreCopied, IsConfirmation, IsPolicy, IsReached, MayGoOn, alone_after, changes, heard, is_unasked, lost_after, machines_of, word_of};
 
 use std::fmt;
 use std::fmt::{Display, Formatter};
 
-/// What replies do while the standby does not have what they reveal.
+/// The policy for replies while the standby lacks notes that they reveal.
 #[derive(Clone, Copy, PartialEq, Eq)]
 pub enum Confirm {
     /// They do not wait for a standby.
     Never,
-    /// They wait for so many seconds. Then the server goes on alone, until the standby has caught up.
+    /// They wait for this many seconds. Then the server goes on alone, until the standby has caught up.
     Within { seconds: u32 },
     /// They wait. If the standby does not answer, the server ends.
     Strict,
 }
 
-/// The standby has the first so many notes, or what reveals them need not wait for it. Only `Confirming` and
+/// The standby has the first `number` notes, or replies that reveal them need not wait for it. Only `Confirming` and
 /// `Confirm::unasked` say so.
 #[derive(Drop)]
 pub struct Confirmed {
@@ -24,7 +24,7 @@ pub struct Confirmed {
 }
 
 impl Confirmed {
-    /// How many notes these are: the first so many of the server.
+    /// The number of these notes, which are the first ones of the server.
     pub fn number(&self) -> u64
         ensures { result ≡ self.now.number }
     {
@@ -45,7 +45,7 @@ impl Display for Confirm {
 }
 
 impl Confirm {
-    /// Where replies never wait for a standby, nobody has to ask how much it has: the first `number` notes may be revealed.
+    /// Confirms the first `number` notes if replies never wait for a standby: then nobody has to ask how many it has.
     pub fn unasked(self, number: u64) -> Option<Confirmed>
         ensures asked { is_some result ≡ is_unasked self }
         ensures number { IfSome result (λ confirmed. confirmed.number ≡ number) }
@@ -57,7 +57,7 @@ impl Confirm {
     }
 }
 
-/// What one who waits for the standby does next.
+/// The next step of a caller that waits for the standby.
 #[derive(Drop)]
 pub enum Confirmation {
     /// Go on.
@@ -68,11 +68,12 @@ pub enum Confirmation {
     Lost,
 }
 
-/// The state that all threads share: how many notes the standby has.
+/// The state that all threads share: the number of notes that the standby has.
 #[derive(Drop)]
 pub struct Confirming {
     policy: Confirm,
-    // The first so many notes are in the copy, and so is what was there at the start. None: it may lack some of that.
+    // The copy has this many first notes, and everything that was there at the start. None: it may lack some of the
+    // latter.
     copied: Option<u64>,
     // The server goes on without the standby.
     is_alone: bool,
@@ -95,7 +96,7 @@ impl Confirming {
         }
     }
 
-    /// What one does next who waits until the standby has the first `number` notes.
+    /// Returns the next step of a caller that waits until the standby has the first `number` notes.
     pub fn next_step(&self, number: u64) -> Confirmation
         ensures { IsConfirmation number self.now.policy self.now.copied self.now.is_alone self.now.is_lost result }
     {
@@ -113,7 +114,7 @@ impl Confirming {
         }
     }
 
-    /// How many of the first `most` notes may be revealed. Nobody waits for it.
+    /// Returns how many of the first `most` notes may be revealed. Nobody waits for it.
     pub fn reach(&self, most: u64) -> Confirmation
         ensures { IsReached most self.now.policy self.now.copied self.now.is_alone self.now.is_lost result }
     {
@@ -131,8 +132,9 @@ impl Confirming {
         }
     }
 
-    /// On how many machines what is answered now is kept: 2 while a reply waits until the standby has what it reveals, and
-    /// otherwise 1, this one. It is 1 too before the standby has everything that was there at the start.
+    /// The number of machines that keep what is answered now: 2 while a reply waits until the standby has the notes
+    /// that it reveals, otherwise 1, this one. It is also 1 before the standby has everything that was there at the
+    /// start.
     pub fn machines(&self) -> u32
         ensures counted { result ≡ machines_of self.now.policy self.now.copied self.now.is_alone self.now.is_lost }
         ensures two { result ≡ 2 → (number : ℕ) → MayGoOn number self.now.policy self.now.copied self.now.is_alone
@@ -142,7 +144,8 @@ impl Confirming {
         if waits && self.copied.is_some() { 2 } else { 1 }
     }
 
-    /// How many notes the standby has: the first so many of the server. None: it may lack some of what was there at the start.
+    /// The number of notes that the standby has, which are the first ones of the server. None: it may lack something
+    /// that was there at the start.
     pub fn copied(&self) -> Option<u64>
         ensures { result ≡ self.now.copied }
     {

@@ -4,8 +4,8 @@
 //! that were noted, one after the other, appends all notes of a cell as one piece, and syncs its file. So one sync serves
 //! every note that came while the last one was under way.
 //!
-//! What must not be forgotten is a value that may not be dropped: code that does not count a note, or does not report a
-//! cell that it took, does not compile. And a cell is reported with what `append` alone gives.
+//! A duty that must not be forgotten is a value that may not be dropped: code that does not count a note, or does not
+//! report a cell that it took, does not compile. And a cell is reported with a value that only `append` gives.
 #![tactic(auto)]
 
 mod appending;

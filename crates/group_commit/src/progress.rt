@@ -1,4 +1,4 @@
-//! How many notes there are, how many of them are on the disk, and the round of cells that is under way.
+//! The number of notes, the number of those on the disk, and the round of cells that is under way.
 ghost use Rattle.std.specs.Prelude.{◌≡◌, ◌+◌, ◌⊎◌, ◌<◌, ◌≤◌, [], true, false, IfErr, IfNone, IfOk, IfSome, OnErr, OnOk};
 ghost use Rattle.group_commit.specs.Notes.{IsUncounted, NothingSettles};
 ghost use Rattle.group_commit.specs.Rounds.{AreListed, Begins, Counts, IsOrderly, IsNextStep, Reports, Stays, Takes, is_due};
@@ -27,20 +27,20 @@ impl Job {
     }
 }
 
-/// How many notes there were when somebody asked.
+/// The number of notes when somebody asked.
 #[derive(Clone, Copy, Drop)]
 pub struct Asked {
     number: u64,
 }
 
-/// The first so many notes are on the disk. Only `Progress` says so.
+/// The first `number` notes are on the disk. Only `Progress` says so.
 #[derive(Debug, Drop)]
 pub struct Kept {
     number: u64,
 }
 
 impl Kept {
-    /// How many notes these are: the first so many of the server.
+    /// The number of these notes, which are the first ones of the server.
     pub fn number(&self) -> u64
         ensures { result ≡ self.now.number }
     {
@@ -48,7 +48,7 @@ impl Kept {
     }
 }
 
-/// What one who waits for notes does next.
+/// The next step of a caller that waits for notes.
 pub enum NextStep {
     /// Go on: the notes are on the disk.
     Kept(Kept),
@@ -67,7 +67,7 @@ pub enum NextStep {
 #[derive(Drop)]
 pub struct Progress {
     state: RoundState,
-    // How many notes the last round had.
+    // The number of notes in the last round.
     last: u64,
     // For each cell, the number of the note that last made it due.
     listed: Vec<u64>,
@@ -132,7 +132,7 @@ impl Progress {
         self.make_due(cell, noted)
     }
 
-    // Whether a cell is known to be among those that are due: a note made it due after the round began.
+    // Returns true if a cell is known to be among those that are due: a note made it due after the round began.
     #[tactic(auto, using(crate::proofs::Listed::due_by_number))]
     fn is_due(&self, cell: u32) -> bool
         ensures { result ≡ true → is_due cell self.now.state.due.items ≡ true }
@@ -167,7 +167,7 @@ impl Progress {
         self.state.has_failed = true;
     }
 
-    /// How many notes there are. Whoever waits for what was noted before asks this first.
+    /// Returns the present number of notes. A caller that waits for earlier notes asks this first.
     pub fn ask(&self) -> Asked
         ensures { result.number ≡ self.now.state.noted }
     {
@@ -188,7 +188,7 @@ impl Progress {
         Some(Kept { number })
     }
 
-    /// What one who has asked does next. Where no round is under way and notes are due, one begins.
+    /// Returns the next step of a caller that has asked. If no round is under way and notes are due, one begins.
     pub fn next_step(&mut self, asked: Asked) -> NextStep
         ensures { IsNextStep asked.number self.old.state self.new.state result }
     {
@@ -222,8 +222,8 @@ impl Progress {
         self.state.is_round = true;
     }
 
-    /// Whether it is worth to wait for others' notes before a round begins: none is under way, and fewer notes are due than
-    /// the last one had. A single author is never kept waiting by it.
+    /// Returns true if it is worth waiting for others' notes before a round begins: none is under way, and fewer notes
+    /// are due than the last one had. A single author is never kept waiting by it.
     pub fn is_sparse(&self, asked: Asked) -> bool {
         !self.state.has_failed
             && !self.state.is_round
@@ -231,26 +231,26 @@ impl Progress {
             && self.state.noted - self.state.kept < self.last
     }
 
-    /// Whether so many cells of the round are left that other threads should help.
+    /// Returns true if enough cells of the round are left that other threads should help.
     pub fn is_large(&self) -> bool {
         self.state.left.len() > FEW
     }
 
-    /// How many notes are on the disk: the first so many of the server.
+    /// The number of notes on the disk, which are the first ones of the server.
     pub fn kept(&self) -> u64
         ensures { result ≡ self.now.state.kept }
     {
         self.state.kept
     }
 
-    /// How many notes there are.
+    /// The number of notes.
     pub fn noted(&self) -> u64
         ensures { result ≡ self.now.state.noted }
     {
         self.state.noted
     }
 
-    /// Whether nothing is settled any more.
+    /// Returns true if nothing is settled any more.
     pub fn has_failed(&self) -> bool
         ensures { result ≡ self.now.state.has_failed }
     {
@@ -299,12 +299,12 @@ impl Progress {
         self.is_over = true;
     }
 
-    /// Whether those that help are to end.
+    /// Returns true if those that help are to end.
     pub fn is_over(&self) -> bool {
         self.is_over
     }
 
-    /// Whether one that helps has nothing to do, and is not to end either.
+    /// Returns true if one that helps has nothing to do, and is not to end either.
     pub fn is_idle(&self) -> bool {
         !self.is_over && (self.state.has_failed || self.state.left.is_empty())
     }

@@ -1,4 +1,4 @@
-//! What was noted of one pad and is not yet written.
+//! The notes of one pad that are not yet written.
 ghost use Rattle.std.specs.Prelude.{◌≡◌, ◌≢◌, ◌∷◌, ◌++◌, [], IfErr, IfNone, IfOk, IfSome, OnErr};
 ghost use Rattle.group_commit.specs.Notes.{IsUnqueued, WasQueued};
 
@@ -7,7 +7,7 @@ use std::mem::replace;
 use store_records::Record;
 use thiserror::Error;
 
-/// What one request leaves, with the time at which it was answered.
+/// The records that one request leaves, with the time at which it was answered.
 #[derive(Drop)]
 pub struct Note {
     /// Seconds since 1970.
@@ -27,14 +27,14 @@ pub struct QueuedNote {
     pub(crate) cell: u32,
 }
 
-/// All notes of a pad, taken out of its queue: what `append` writes.
+/// All notes of a pad, taken out of its queue, for `append` to write.
 #[derive(Drop)]
 pub struct Notes {
     pub(crate) cell: u32,
     pub(crate) all: Vec<Note>,
 }
 
-/// Why a note is not taken. Nothing is settled after it.
+/// The reason a note is not taken. Nothing is settled after it.
 #[derive(Clone, Copy, Debug, Error)]
 pub enum Unnoted {
     #[error("out of memory")]
@@ -56,7 +56,7 @@ impl PadQueue {
         }
     }
 
-    /// Puts a note of the pad at this cell behind those that are there. Where that fails, the queue is as it was.
+    /// Puts a note of the pad at this cell after those that are there. If that fails, the queue is unchanged.
     #[tactic(auto, using(crate::specs::Notes::is_queued))]
     pub fn push(&mut self, cell: u32, note: Note) -> Result<QueuedNote, Unnoted>
         ensures queued { IfOk result (λ noted. (self.new.notes.items ≡ self.old.notes.items ++ note ∷ [])

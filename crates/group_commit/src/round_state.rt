@@ -1,18 +1,18 @@
-//! How far the notes of all pads are.
+//! The progress of the notes of all pads.
 
 /// The notes that are counted, and the cells of the round that is under way.
 #[derive(Drop)]
 pub struct RoundState {
     pub noted: u64,
-    /// The first so many notes are on the disk.
+    /// The number of first notes that are on the disk.
     pub kept: u64,
-    /// The first so many notes are on the disk once the round ends.
+    /// The number of first notes that are on the disk once the round ends.
     pub upto: u64,
     /// The cells noted since the round began.
     pub due: Vec<u32>,
     /// The cells of the round that nobody has taken.
     pub left: Vec<u32>,
-    /// How many cells of the round are not reported.
+    /// The number of cells of the round that are not reported.
     pub unreported: u64,
     pub is_round: bool,
     /// Nothing is settled any more.

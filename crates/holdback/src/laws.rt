@@ -6,7 +6,7 @@ pub fn held_law()
     ensures { HeldLaw }
 {}
 
-/// What is removed and what stays are together what was held.
+/// The operations that are removed and those that stay are together those that were held.
 pub fn taken_law()
     ensures { TakenLaw }
 {}

@@ -4,7 +4,7 @@ ghost use Rattle.holdback.specs.Held.{reaches, is_ready};
 
 use pad_model::{Counted, Op, Seen};
 
-/// Whether an operation is the next of its origin, and every count in its own vector is reached.
+/// Returns true if an operation is the next of its origin, and every count in its own vector is reached.
 pub fn is_ready(op: &Op, seen: &Seen) -> bool
     ensures { result ≡ is_ready seen.now op.now }
 {

@@ -1,4 +1,4 @@
-//! Where a character is: an index that finds the block that holds a stamp, and labels that tell which of two blocks
+//! The place of a character: an index that finds the block that holds a stamp, and labels that tell which of two blocks
 //! comes first.
 //!
 //! It depends on `pad_model` and std's `BTreeMap`. It keeps neither the text nor the list of its blocks, and chooses no

@@ -1,13 +1,13 @@
 use pad_model::Stamp;
 
-/// What the index keeps of a block: its number of characters, and the label that orders it among the others.
+/// The index's entry for a block: its number of characters, and the label that orders it among the others.
 #[derive(Clone, Copy, Debug, PartialEq, Eq)]
 pub struct BlockEntry {
     pub len: u64,
     pub label: u64,
 }
 
-/// Where a character is: the first stamp and the label of its block, and the number of characters before it there.
+/// The place of a character: the first stamp and the label of its block, and the number of characters before it there.
 #[derive(Clone, Copy, Debug, PartialEq, Eq)]
 pub struct Place {
     pub first: Stamp,

@@ -20,7 +20,7 @@ fn code(rig: &mut TestServer, session: u32, line: &str) -> Result<u64, Refusal> 
     Ok(number_behind(reply.as_str(), r#"{"code":"#).unwrap_or(0))
 }
 
-/// How often a request is taken before it is refused, at most this many times.
+/// Returns the number of times that a request is taken before it is refused, at most `times`.
 fn count_taken(rig: &mut TestServer, line: &str, times: u64) -> Result<u64, Refusal> {
     for taken in 0..times {
         if rig.refuses(ANN, line)? {
@@ -49,7 +49,7 @@ fn type_last(rig: &mut TestServer) -> Result<(), Refusal> {
 const Z: &str =
     r#"{"do":"push","pad":"p","op":{"name":[2,1],"seen":[],"author":"bob","kind":"insert","after":null,"first":[281474976710656,2],"text":"z"}}"#;
 
-/// What is done with a server, and the expected result.
+/// An act on a server, and the expected result.
 #[derive(Clone, Copy, Debug)]
 enum LimitCase {
     /// A session's request, and the number of its refusal; 0 if it is not refused.
@@ -187,7 +187,7 @@ fn add_letters(line: &mut String, len: u64) -> Result<(), Refusal> {
     Ok(line.push_str(r#""}}"#)?)
 }
 
-/// Whether such an operation is taken.
+/// Returns true if such an operation is taken.
 fn types(
     alloc: Global,
     rig: &mut TestServer,

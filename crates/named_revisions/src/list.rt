@@ -62,7 +62,7 @@ impl NamedRevisions {
         Ok(())
     }
 
-    /// Why one more name is refused, or None. The first refusal that applies is returned.
+    /// The refusal of one more name, or None. The first refusal that applies is returned.
     fn refusal_of(&self, text: &Text) -> Option<Refusal>
         ensures { result ≡ name_refusal text.now self.now }
     {

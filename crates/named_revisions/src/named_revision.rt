@@ -7,7 +7,7 @@ use std::alloc::AllocError;
 #[derive(Debug, Drop, PartialEq)]
 pub struct NamedRevision {
     pub rev: u64,
-    /// Who named it.
+    /// The author who named it.
     pub author: Name,
     /// When, in milliseconds since 1970.
     pub at: u64,

@@ -27,7 +27,7 @@ pub struct OpLog {
     notes: Vec<u64>,
     // The places of those that the first version of the wire cannot say.
     unsayable: Vec<u64>,
-    // Whether the operation that is ready fits all of these.
+    // True if the operation that is ready fits all of these.
     has_room: bool,
 }
 
@@ -98,7 +98,7 @@ impl OpLog {
         self.has_room = false;
     }
 
-    /// How many operations there are, which is the number of the last revision.
+    /// The number of operations, which is the number of the last revision.
     pub fn len(&self) -> u64
         ensures { result ≡ length self.now.operations }
     {
@@ -154,8 +154,8 @@ impl OpLog {
         Ok(answer)
     }
 
-    /// How many of the operations that make the revisions `from` to `from + count - 1` comment or resolve. It needs no
-    /// memory.
+    /// The number of comments and resolutions among the operations that make the revisions `from` to `from + count - 1`. It
+    /// needs no memory.
     pub fn count_notes(&self, from: u64, count: u64) -> u64
         requires { 1 ≤ from }
         ensures { result ≡ count_by is_note (entries self.now.operations from count) }
@@ -184,8 +184,8 @@ impl OpLog {
         Ok(answer)
     }
 
-    /// Whether the first version of the wire can say the first operation that `seen` does not cover, if there is one. It
-    /// needs no memory.
+    /// Returns true if the first version of the wire can express the first operation that `seen` does not cover, if there is
+    /// one. It needs no memory.
     pub fn first_missing_in_v1(&self, seen: &Seen) -> Option<bool>
         ensures { result ≡ option_map op_in_v1
             (slice_get (filter (is_missing seen.now) self.now.operations) 0) }
@@ -237,7 +237,7 @@ impl OpLog {
         self.search_missing(seen, from)
     }
 
-    /// Whether `seen` does not cover the operation at a place, if there is one.
+    /// Returns true if there is an operation at a place and `seen` does not cover it.
     fn is_missing_at(&self, seen: &Seen, place: u64) -> bool
         ensures { result ≡ is_missing_in seen.now (slice_get self.now.operations place) }
     {
@@ -260,7 +260,7 @@ impl OpLog {
         next
     }
 
-    /// How many operations an origin has.
+    /// The number of operations of an origin.
     pub fn count(&self, origin: u16) -> u64
         ensures { result ≡ count_of self.now.operations origin }
     {

@@ -6,7 +6,7 @@ use crate::number::{next_number, push_number};
 use std::alloc::{AllocError, Global};
 use std::marker::Model;
 
-/// How many items a full page has.
+/// The number of items of a full page.
 pub const PAGE_ITEMS: u64 = 64;
 
 /// A page that is being filled. An item is written first (`prepare`), and then counted (`commit`).
@@ -14,9 +14,9 @@ pub const PAGE_ITEMS: u64 = 64;
 pub struct OpPage {
     bytes: Vec<u8>,
     count: u64,
-    // Where the bytes of the items end.
+    // The end of the bytes of the items.
     end: usize,
-    // Whether an item was prepared: its bytes follow the end.
+    // True if an item was prepared: its bytes follow the end.
     is_ready: bool,
 }
 

@@ -104,7 +104,7 @@ impl TimeList {
         Some(era_base(&self.eras, place) + *step as u64)
     }
 
-    /// How many times come before the first one that is later than a moment.
+    /// The number of times before the first one that is later than a moment.
     pub fn count_until(&self, moment: u64) -> u64
         ensures { result ≡ count_until moment self.now.times }
     {
@@ -121,7 +121,7 @@ impl TimeList {
         low
     }
 
-    /// Whether there is a time at a place, and it comes before the first one that is later than a moment.
+    /// Returns true if there is a time at a place, and it comes before the first one that is later than a moment.
     fn is_until(&self, place: u64, moment: u64) -> bool
         requires { IsRising self.now.times }
         ensures { result ≡ nat_lt place (count_until moment self.now.times) }

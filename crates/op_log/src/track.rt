@@ -13,7 +13,7 @@ pub struct Mark {
 #[derive(Drop)]
 pub struct Track {
     pub origin: u16,
-    /// Whether no number is below an earlier one. Delivery keeps it so.
+    /// True if no number is below an earlier one. Delivery keeps it so.
     pub rises: bool,
     pub marks: Vec<Mark>,
 }

@@ -17,10 +17,10 @@ use std::fs::File;
 use std::io;
 use std::io::Read;
 
-/// Where random bytes are read.
+/// The file from which random bytes are read.
 const RANDOM: &str = "/dev/urandom";
 
-/// What an addition comes to.
+/// The result of an addition.
 #[derive(Drop)]
 pub struct Addition {
     /// The new text of the accounts file.
@@ -46,7 +46,7 @@ pub fn add<'a>(
     Ok(added.links)
 }
 
-/// What the addition of these authors to this text comes to, each with a new token.
+/// Adds these authors to this text, each with a new token.
 fn prepare_addition<'a>(
     rt: &HostRuntime,
     text: &[u8],
@@ -94,7 +94,7 @@ fn random_bytes(source: &mut File) -> io::Result<[u8; TOKEN_LENGTH]> {
     Ok(bytes)
 }
 
-/// The text with these authors, and their links. By what is written, each of them logs in.
+/// The text with these authors, and their links. With the result, each of them logs in.
 pub fn extend(
     alloc: Global,
     text: &[u8],

@@ -10,7 +10,7 @@ use clap::{Command, Error};
 use command_line::VERSION;
 use std::alloc::{AllocError, Global};
 
-/// What the words of the command line give.
+/// The arguments that the words of the command line give.
 #[derive(Drop)]
 pub struct AccountsArguments<'a> {
     /// The path of the accounts file.
@@ -25,7 +25,7 @@ pub struct AccountsArguments<'a> {
     pub at: Option<&'a str>,
     /// The pad that a link opens.
     pub pad: Option<&'a str>,
-    /// Whether the hash of a token is stored in its place.
+    /// True if the hash of a token is stored in its place.
     pub hash: bool,
 }
 
@@ -78,7 +78,7 @@ fn command<'a>(alloc: Global) -> Result<Command<'a>, AllocError>
         .arg(flag(alloc, "hash", hash_help))
 }
 
-/// What the words of the command line give, or what is wrong with them.
+/// Parses the words of the command line: returns their arguments, or the error in them.
 pub fn parse<'a>(alloc: Global, words: &'a [String]) -> Result<AccountsArguments<'a>, Error>
     ensures asked { IfOk result (AsksFor (map string_bytes words.now)) }
     ensures refused { FailsBy (fault_of line (map string_bytes words.now)) result }

@@ -1,4 +1,4 @@
-//! Whether a text is an accounts file that a server takes.
+//! Checks that a text is an accounts file that a server takes.
 ghost use Rattle.std.specs.Prelude.{◌≡◌, Ok, true, IfOk, IfErr};
 ghost use Rattle.sessions.specs.Accounts.{accounts_of, is_author};
 ghost use Rattle.pad_accounts.specs.Checked.{Refuses};
@@ -23,7 +23,7 @@ pub fn check<'a>(alloc: Global, path: &'a str, text: &[u8]) -> Result<Accounts, 
     }
 }
 
-/// Whether an author logs in with this token.
+/// Returns true if an author logs in with this token.
 pub fn logs_in(accounts: &Accounts, name: &[u8], token: &[u8]) -> bool
     ensures { result ≡ true → is_author name.now token.now accounts.now ≡ true }
 {

@@ -1,4 +1,4 @@
-//! Why the program ends early.
+//! The reason why the program ends early.
 ghost use Rattle.std.specs.Prelude.{◌≡◌};
 ghost use Rattle.std.specs.Process.{exit_status};
 ghost use Rattle.pad_accounts.specs.Status.{status};
@@ -12,7 +12,7 @@ use std::io::ErrorKind;
 use std::process::ExitCode;
 use std::{fmt, io};
 
-/// Why the program ends early.
+/// The reason why the program ends early.
 #[derive(Clone, Copy)]
 pub enum AccountsFailure<'a> {
     Memory,
@@ -32,7 +32,7 @@ pub enum AccountsFailure<'a> {
     EmptyList {
         path: &'a str,
     },
-    /// The accounts file is wrong, as it was before.
+    /// The accounts file is wrong, and was so before.
     WrongFile {
         path: &'a str,
         line: u64,
@@ -50,13 +50,13 @@ pub enum AccountsFailure<'a> {
         path: &'a str,
         name: &'a str,
     },
-    /// The accounts file would be wrong with what is added.
+    /// The accounts file would be wrong with the addition.
     WouldBeWrong(Mistake),
     /// The accounts file would be wrong with the line of a person.
     WrongPerson(Mistake),
     /// A person would not have the display name.
     NoPerson,
-    /// An author could not log in with what is added.
+    /// An author could not log in with the addition.
     NoLogin,
     /// There are no random bytes.
     NoRandom(io::Error),
@@ -79,7 +79,7 @@ pub enum AccountsFailure<'a> {
 }
 
 impl<'a> AccountsFailure<'a> {
-    /// Why an accounts file could not be read.
+    /// The reason why an accounts file could not be read.
     pub fn unread(path: &'a str, cause: io::Error) -> AccountsFailure<'a> {
         match cause.kind() {
             ErrorKind::OutOfMemory => AccountsFailure::Memory,
@@ -87,7 +87,7 @@ impl<'a> AccountsFailure<'a> {
         }
     }
 
-    /// Why a list of names could not be read.
+    /// The reason why a list of names could not be read.
     pub fn unread_list(path: &'a str, cause: io::Error) -> AccountsFailure<'a> {
         match cause.kind() {
             ErrorKind::OutOfMemory => AccountsFailure::Memory,
@@ -95,7 +95,7 @@ impl<'a> AccountsFailure<'a> {
         }
     }
 
-    /// Why an accounts file could not be replaced.
+    /// The reason why an accounts file could not be replaced.
     pub fn unwritten(path: &'a str, cause: io::Error) -> AccountsFailure<'a> {
         match cause.kind() {
             ErrorKind::OutOfMemory => AccountsFailure::Memory,
@@ -103,7 +103,7 @@ impl<'a> AccountsFailure<'a> {
         }
     }
 
-    /// Why the arguments could not be read.
+    /// The reason why the arguments could not be read.
     pub fn of_arguments(cause: io::Error) -> AccountsFailure<'static> {
         match cause.kind() {
             ErrorKind::OutOfMemory => AccountsFailure::Memory,
@@ -111,7 +111,7 @@ impl<'a> AccountsFailure<'a> {
         }
     }
 
-    /// Why nothing could be printed.
+    /// The reason why nothing could be printed.
     pub fn of_output(cause: io::Error) -> AccountsFailure<'static> {
         match cause.kind() {
             ErrorKind::OutOfMemory => AccountsFailure::Memory,

@@ -38,14 +38,14 @@ pub fn without_end(line: &[u8]) -> &[u8]
     }
 }
 
-/// What stands in front of an end, if a text has this end.
+/// The text before an end, if it has this end.
 fn before_end<'t>(end: &[u8], text: &'t [u8]) -> Option<&'t [u8]>
     ensures { option_map (λ rest. rest.now) result ≡ lines.before_end end.now text.now }
 {
     text.strip_suffix(end)
 }
 
-/// What follows a prefix.
+/// The text after a prefix, if it has this prefix.
 pub fn strip<'t>(prefix: &[u8], text: &'t [u8]) -> Option<&'t [u8]>
     ensures { option_map (λ rest. rest.now) result ≡ stripped prefix.now text.now }
 {
@@ -62,7 +62,7 @@ pub fn first_word(text: &[u8]) -> &[u8]
     }
 }
 
-/// What follows a first word with its space, a name and a space on a line.
+/// The rest of a line after a first word with its space, a name and a space.
 fn rest_on<'t>(kind: &[u8], line: &'t [u8], name: &[u8]) -> Option<&'t [u8]>
     ensures { option_map (λ rest. rest.now) result ≡ rest_on kind.now name.now line.now }
 {
@@ -71,7 +71,7 @@ fn rest_on<'t>(kind: &[u8], line: &'t [u8], name: &[u8]) -> Option<&'t [u8]>
     strip(b" ", rest)
 }
 
-/// What follows them on the first line that begins so.
+/// The rest of the first line that begins with them.
 pub fn rest_of<'t>(kind: &[u8], text: &'t [u8], name: &[u8]) -> Option<&'t [u8]>
     ensures { option_map (λ rest. rest.now) result ≡ rest_in kind.now name.now (raw_lines text.now) }
 {
@@ -93,7 +93,7 @@ pub fn token_of<'t>(text: &'t [u8], name: &[u8]) -> Option<&'t [u8]>
     rest_of(b"author ", text, name)
 }
 
-/// Which lines of a name are taken out.
+/// The lines of a name that are taken out.
 #[derive(Clone, Copy)]
 pub enum Taken {
     /// Those of the token, of the hash, and of the person.
@@ -102,7 +102,7 @@ pub enum Taken {
     PersonLine,
 }
 
-/// Whether a line is taken out.
+/// Returns true if a line is taken out.
 fn is_out(taken: Taken, line: &[u8], name: &[u8]) -> bool
     ensures { result ≡ is_out taken name.now line.now }
 {
@@ -112,7 +112,7 @@ fn is_out(taken: Taken, line: &[u8], name: &[u8]) -> bool
     }
 }
 
-/// Whether a line is an author's: that of a token, of a hash, or of a person.
+/// Returns true if a line is an author's: that of a token, of a hash, or of a person.
 fn is_line_of(line: &[u8], name: &[u8]) -> bool
     ensures { result ≡ is_line_of name.now line.now }
 {
@@ -121,7 +121,7 @@ fn is_line_of(line: &[u8], name: &[u8]) -> bool
         || rest_on(b"person ", line, name).is_some()
 }
 
-/// The text without these lines of a name. Every other line stays as it is.
+/// The text without these lines of a name. Every other line stays unchanged.
 pub fn without(alloc: Global, text: &[u8], name: &[u8], taken: Taken) -> Result<Vec<u8>, AllocError>
     ensures { IfOk result (λ kept. kept.items ≡ without taken name.now (raw_lines text.now)) }
 {
@@ -137,7 +137,7 @@ pub fn without(alloc: Global, text: &[u8], name: &[u8], taken: Taken) -> Result<
     Ok(kept)
 }
 
-/// The text with a line for each of these authors behind it, in their order.
+/// The text, followed by a line for each of these authors, in their order.
 pub fn with_authors(
     alloc: Global,
     text: &[u8],

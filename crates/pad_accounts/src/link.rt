@@ -4,10 +4,10 @@ ghost use Rattle.pad_accounts.specs.Links.{digit_of, escaped, is_plain, origin_o
 
 use std::alloc::AllocError;
 
-/// Where a server is without `--at`.
+/// The origin of a server without `--at`.
 const DEFAULT_AT: &str = "http://127.0.0.1:8080";
 
-/// What a link leads to.
+/// The target of a link.
 #[derive(Clone, Copy)]
 pub struct LinkForm<'a> {
     /// The origin of the page. None: `DEFAULT_AT`.

@@ -1,4 +1,4 @@
-//! What `list` prints.
+//! The output of `list`.
 ghost use Rattle.std.specs.Prelude.{◌≡◌, [], IfOk, OnOk};
 ghost use Rattle.pad_accounts.specs.Lines.{raw_lines};
 ghost use Rattle.pad_accounts.specs.Listed.{with_line, with_shown};
@@ -20,7 +20,7 @@ pub fn listed(alloc: Global, text: &[u8]) -> Result<Vec<u8>, AllocError>
     Ok(shown)
 }
 
-/// Adds what is shown of a line.
+/// Adds the part of a line that is shown.
 fn push_shown(text: &mut Vec<u8>, line: &[u8]) -> Result<(), AllocError>
     ensures { OnOk result (text.new.items ≡ with_line text.old.items line.now) }
 {

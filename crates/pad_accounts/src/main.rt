@@ -83,7 +83,7 @@ fn list_of<'a>(rt: &HostRuntime, mode: &AccountsMode<'a>) -> Result<Vec<u8>, Acc
     }
 }
 
-/// Does what the command line asks for. `list` is what `--from` names.
+/// Does what the command line asks for. `list` is the content of the file that `--from` names.
 fn run<'a>(
     rt: &HostRuntime,
     mode: AccountsMode<'a>,

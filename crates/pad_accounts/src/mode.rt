@@ -1,4 +1,4 @@
-//! What the program does, by its command line.
+//! The command that the program runs, by its command line.
 ghost use Rattle.std.specs.Prelude.{◌≡◌};
 ghost use Rattle.pad_accounts.specs.Modes.{added_by, done_with, form_of, kind_of, misuse_of, mode_of, needless, only_of, with_deed, wrong_form};
 ghost use Rattle.pad_accounts.specs.Modes as modes;
@@ -37,7 +37,7 @@ pub enum AccountsMode<'a> {
         kind: SecretKind,
         form: LinkForm<'a>,
     },
-    /// Removes an author, and what is said of the person.
+    /// Removes an author, and the line of the person.
     Remove {
         file: &'a str,
         name: &'a str,
@@ -52,14 +52,14 @@ pub enum AccountsMode<'a> {
         name: &'a str,
         form: LinkForm<'a>,
     },
-    /// Says who a person is: the name, the ID and the words of the display name.
+    /// Sets the line of a person: the name, the ID and the words of the display name.
     Person {
         file: &'a str,
         words: Vec<&'a str>,
     },
 }
 
-/// What is wrong with a command line that clap accepts.
+/// An error in a command line that clap accepts.
 #[derive(Clone, Copy, Debug, Error)]
 pub enum AccountsMisuse<'a> {
     #[error("the command is add, remove, list, link or person")]
@@ -181,7 +181,7 @@ impl<'a> AccountsArguments<'a> {
         }
     }
 
-    // What the accounts file has of the tokens.
+    // The form in which the accounts file has the tokens.
     fn kind(&self) -> SecretKind
         ensures { result ≡ kind_of self.now }
     {
@@ -192,7 +192,7 @@ impl<'a> AccountsArguments<'a> {
         }
     }
 
-    // What the links lead to.
+    // The target of the links.
     fn form(&self) -> LinkForm<'a>
         ensures { result ≡ form_of self.now }
     {
@@ -202,7 +202,7 @@ impl<'a> AccountsArguments<'a> {
         }
     }
 
-    // What is wrong with the options of a command, if anything.
+    // The error in the options of a command, if any.
     fn misuse(&self, deed: AccountsDeed) -> Option<AccountsMisuse<'a>>
         ensures { result ≡ misuse_of deed self.now }
     {
@@ -233,7 +233,7 @@ impl<'a> AccountsArguments<'a> {
     }
 }
 
-// What is wrong with the values of `--at` and `--pad`.
+// The error in the values of `--at` and `--pad`, if any.
 fn wrong_form<'a>(at: Option<&'a str>, pad: Option<&'a str>) -> Option<AccountsMisuse<'a>>
     ensures { result ≡ wrong_form at.entry pad.entry }
 {

@@ -1,4 +1,4 @@
-//! The names that are to be added, and what can be wrong with them.
+//! The names that are to be added, and the faults that they can have.
 ghost use Rattle.std.specs.Prelude.{◌≡◌, [], map, is_some, IfOk};
 ghost use Rattle.pad_model.specs.Checked.{is_name};
 ghost use Rattle.pad_accounts.specs.Lines.{raw_lines, rest_in};
@@ -16,7 +16,7 @@ pub struct ListedName<'a> {
     pub line: Option<u64>,
 }
 
-/// What is wrong with a name that is to be added.
+/// The fault of a name that is to be added.
 #[derive(Clone, Copy)]
 pub enum NameFault {
     /// It is not 1 to 32 characters of a-z, 0-9 and -.
@@ -73,7 +73,7 @@ pub fn names_in(alloc: Global, list: &[u8]) -> Result<Vec<ListedName<'_>>, Alloc
     Ok(names)
 }
 
-/// Whether a line of a list is empty or begins with #.
+/// Returns true if a line of a list is empty or begins with #.
 fn is_passed_over(line: &[u8]) -> bool
     ensures { result ≡ is_passed_over line.now }
 {
@@ -95,7 +95,7 @@ pub fn wrong_name<'a>(text: &[u8], names: &[ListedName<'a>]) -> Option<WrongName
     None
 }
 
-/// What is wrong with a name after these.
+/// The fault of a name that follows these, if any.
 fn fault_in(text: &[u8], before: &[ListedName<'_>], name: &[u8]) -> Option<NameFault>
     ensures { result ≡ fault_of (raw_lines text.now) before.now name.now }
 {
@@ -110,21 +110,21 @@ fn fault_in(text: &[u8], before: &[ListedName<'_>], name: &[u8]) -> Option<NameF
     }
 }
 
-/// Whether one of these names is this one.
+/// Returns true if one of these names is this one.
 fn was_named(names: &[ListedName<'_>], name: &[u8]) -> bool
     ensures { result ≡ was_named name.now names.now }
 {
     names.iter().any(|other| other.name == name)
 }
 
-/// Whether an accounts file with this text has the token or the hash of an author of this name.
+/// Returns true if an accounts file with this text has the token or the hash of an author of this name.
 pub fn has_author(text: &[u8], name: &[u8]) -> bool
     ensures { result ≡ has_author name.now (raw_lines text.now) }
 {
     has_line(b"author ", text, name) || has_line(b"hash ", text, name)
 }
 
-/// Whether a line begins with this word and this name.
+/// Returns true if a line begins with this word and this name.
 pub fn has_line(kind: &[u8], text: &[u8], name: &[u8]) -> bool
     ensures { result ≡ is_some (rest_in kind.now name.now (raw_lines text.now)) }
 {
@@ -134,7 +134,7 @@ pub fn has_line(kind: &[u8], text: &[u8], name: &[u8]) -> bool
     }
 }
 
-/// Whether bytes are a name.
+/// Returns true if bytes are a name.
 fn is_well_formed(name: &[u8]) -> bool
     ensures { result ≡ is_name name.now }
 {

@@ -7,7 +7,7 @@ pub struct NewAuthor<'a> {
     pub token: Vec<u8>,
 }
 
-/// What the accounts file has of the token of an author who is added.
+/// The form in which the accounts file has the token of an author who is added.
 #[derive(Clone, Copy)]
 pub enum SecretKind {
     /// The token.

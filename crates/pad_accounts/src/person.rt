@@ -42,8 +42,8 @@ fn joined(alloc: Global, first: &str, more: &[&str]) -> Result<String, AllocErro
     Ok(text)
 }
 
-/// The text with the line of a person behind it, in place of the one that it has for this name. By what is written, the
-/// name has the display name.
+/// The text, followed by the line of a person, in place of the one that it has for this name. In the result, the name
+/// has the display name.
 pub fn extend(
     alloc: Global,
     text: &[u8],
@@ -95,7 +95,7 @@ fn check_person(alloc: Global, more: &[u8]) -> Result<Accounts, AccountsFailure<
     }
 }
 
-/// Whether a name has this display name.
+/// Returns true if a name has this display name.
 fn is_shown_as(accounts: &Accounts, name: &Name, display: &str) -> bool
     ensures { result ≡ true → display_of name.now accounts.now.people ≡ Some display.now }
 {

@@ -9,7 +9,7 @@ use crate::lines::{Taken, without};
 use crate::names::{has_author, has_line};
 use std::alloc::Global;
 
-/// Removes an author, and what is said of the person, from an accounts file.
+/// Removes an author, and the line of the person, from an accounts file.
 pub fn remove<'a>(
     rt: &HostRuntime,
     path: &'a str,
@@ -25,7 +25,7 @@ pub fn remove<'a>(
     held.replace(rt, less.as_slice())
 }
 
-/// Whether a line is an author's or a person's.
+/// Returns true if the text has a line of this author or this person.
 fn is_there(text: &[u8], name: &[u8]) -> bool {
     has_author(text, name) || has_line(b"person ", text, name)
 }

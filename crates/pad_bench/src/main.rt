@@ -1,6 +1,6 @@
-//! Does the work of benchmarks and prints what it counted, never a time: `bench/run` at the top takes those.
+//! Does the work of benchmarks and prints its counts, never a time: `bench/run` at the top takes those.
 //!
-//! A line of its input names the work, its size, and how often the part is done that is timed. Plain Rust in
+//! A line of its input names the work, its size, and the number of times that the timed part is done. Plain Rust in
 //! `bench/twin` does the same work and prints the same.
 #![tactic(auto)]
 

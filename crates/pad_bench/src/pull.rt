@@ -35,7 +35,7 @@ fn grown(alloc: Global, size: u32) -> Result<OpLog, Refusal> {
     Ok(log)
 }
 
-/// What was seen of operations, in their order.
+/// The count of the operations that were seen, and a check sum over them in their order.
 #[derive(Drop)]
 struct PullTally {
     operations: u64,
@@ -65,7 +65,7 @@ impl PullTally {
     }
 }
 
-// Four more operations, and whether there were any.
+// Notes four more operations, and returns true if there were any.
 fn pull_four(
     alloc: Global,
     log: &OpLog,

@@ -1,4 +1,4 @@
-//! Work on a sequence: edits of one author by calls, each at a revision that is some behind the present.
+//! Work on a sequence: edits of one author by calls, each at a revision that is some before the present.
 ghost use Rattle.std.specs.Prelude.{◌≡◌, IsTrue};
 ghost use Rattle.std.specs.List.{list_all};
 ghost use Rattle.pad_model.specs.Checked.{fits_clock, is_run, is_span};
@@ -12,18 +12,18 @@ use std::marker::Model;
 
 const REPLICA: u16 = 1;
 
-/// Where the edits of a trace stand.
+/// The places of the edits of a trace.
 #[derive(Clone, Copy, Debug)]
 pub enum Trace {
     /// Each character at the end.
     Append,
-    /// Each character behind the one before it, in front of the last character of the text.
+    /// Each character after the one typed before it, in front of the last character of the text.
     Forward,
-    /// Each character behind the first one.
+    /// Each character directly after the first one.
     Backward,
     /// Four characters at a random place; each eighth edit erases one instead.
     Random,
-    /// Four characters at a random place of the revision that is so many behind the present.
+    /// Four characters at a random place of the revision that is this many before the present.
     Stale(u64),
 }
 
@@ -147,14 +147,15 @@ impl<S: Sequence> Desk<S> {
         }
     }
 
-    // How many characters are shown.
+    // The number of characters that are shown.
     fn shown(&self) -> u64 {
         self.row.len_at(self.rev)
     }
 }
 
 impl Desk<BlockSeq> {
-    // The blocks, what is shown, and a check sum over the stamps, parents and labels of the blocks in order.
+    // The numbers of blocks and of characters shown, and a check sum over the stamps, parents and labels of the blocks
+    // in order.
     fn counts(&self, alloc: Global) -> Result<String, Refusal> {
         let mut check: u64 = 0;
         for block in self.row.kept().tree {
@@ -227,7 +228,7 @@ pub fn edits(alloc: Global, trace: Trace, size: u32, times: u32) -> Result<Strin
     Ok(counts)
 }
 
-/// Makes the same edits on an empty plain sequence, and answers what is shown in the end.
+/// Makes the same edits on an empty plain sequence, and returns the number of characters shown in the end.
 pub fn plain_edits(alloc: Global, trace: Trace, size: u32, times: u32) -> Result<String, Refusal> {
     let author = typist(alloc)?;
     let mut shown: u64 = 0;

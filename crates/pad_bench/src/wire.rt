@@ -5,7 +5,7 @@ use serde_json::Value;
 use std::alloc::Global;
 use wire_json::{read_request, reply_line};
 
-/// What a session asks, a line of each kind that is frequent.
+/// The requests of a session, a line of each kind that is frequent.
 const ASKED: [&str; 6] = [
     r#"{"do":"insert","pad":"minutes","rev":1204,"at":3310,"text":"x"}"#,
     r#"{"do":"insert","pad":"minutes","rev":1204,"at":3310,"text":"The council met at ten."}"#,
@@ -15,7 +15,7 @@ const ASKED: [&str; 6] = [
     r#"{"do":"push","pad":"minutes","op":{"after":[2,1],"author":"bob","first":[5,2],"kind":"insert","name":[2,1],"seen":[[1,1]],"text":"X"}}"#,
 ];
 
-// What it is answered.
+// The reply to a request of a kind.
 fn answered(alloc: Global, kind: usize) -> Result<Reply, Refusal> {
     let name = OpName {
         origin: 1,
@@ -43,7 +43,7 @@ fn answered(alloc: Global, kind: usize) -> Result<Reply, Refusal> {
     }))
 }
 
-// The bytes of all answers, where each line is read and each answer written so often by a request and a reply.
+// The bytes of all answers, where each line is read as a request and each answer written as a reply, `rounds` times.
 fn by_wire(alloc: Global, rounds: u64) -> Result<u64, Refusal> {
     let mut answers = Items::new(alloc);
     for kind in 0..ASKED.len() {

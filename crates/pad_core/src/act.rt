@@ -14,7 +14,7 @@ pub enum Change {
     Delete { at: u64, len: u64 },
 }
 
-/// What somebody does on a pad. Places and lengths count the characters of the revision that is named.
+/// An act of somebody on a pad. Places and lengths count the characters of the revision that is named.
 #[derive(Debug, Drop)]
 pub enum Act {
     /// Joins the pad with a new visit.
@@ -33,7 +33,7 @@ pub enum Act {
         at: u64,
         len: u64,
     },
-    /// Makes several changes of a revision at once. Each refers to the revision as it is.
+    /// Makes several changes of a revision at once. Each refers to the unchanged revision.
     Edit {
         rev: u64,
         changes: Items<Change>,

@@ -1,4 +1,4 @@
-//! Who may do what: the order of the refusals that come before an act itself is examined.
+//! Permission to do an act: the order of the refusals that come before the act itself is examined.
 ghost use Rattle.std.specs.Prelude.{◌≡◌, true, false};
 ghost use Rattle.pad_core.specs.Machine.{need_refusal, or_denied, suits};
 ghost use Rattle.pad_core.specs.Machine as machine;
@@ -9,7 +9,7 @@ use pad_model::{Name, Refusal, Who};
 use presence::PresenceBook;
 use rights::{Right, RightsBook};
 
-/// What an act requires of whoever does it.
+/// The session, visit and right that an act requires.
 #[derive(Clone, Copy)]
 pub enum Need {
     /// An author without a visit who may read.
@@ -22,7 +22,7 @@ pub enum Need {
     PeerSession,
 }
 
-/// What an act requires.
+/// Returns the need of an act.
 pub fn need_of(act: &Act) -> Need
     ensures { result ≡ machine.need_of act.now }
 {
@@ -50,7 +50,7 @@ pub fn need_of(act: &Act) -> Need
     }
 }
 
-/// Why an author may not do an act, or None. The first refusal that applies is returned.
+/// Returns the reason an author may not do an act, or None. The first refusal that applies is returned.
 pub fn author_refusal(
     rights: &RightsBook,
     presence: &PresenceBook,
@@ -76,8 +76,8 @@ pub fn nobody_refusal(need: Need) -> Refusal
     }
 }
 
-/// Why a session cannot do an act on any pad, or None: it is not of the kind that the act requires, or the act names an
-/// author by an invalid name, or everyone as an owner.
+/// Returns the reason a session cannot do an act on any pad, or None: it is not of the kind that the act requires, or
+/// the act names an author by an invalid name, or everyone as an owner.
 pub fn session_refusal(who: &Who, act: &Act) -> Option<Refusal>
     ensures { result ≡ machine.session_refusal who.now act.now }
 {
@@ -92,7 +92,7 @@ pub fn session_refusal(who: &Who, act: &Act) -> Option<Refusal>
     }
 }
 
-/// Whether a session is of the kind that an act requires.
+/// Returns true if a session is of the kind that an act requires.
 fn suits(who: &Who, need: Need) -> bool
     ensures { result ≡ suits who.now need }
 {
@@ -103,7 +103,7 @@ fn suits(who: &Who, need: Need) -> bool
     }
 }
 
-/// Whether an act names an author by an invalid name, or everyone as an owner.
+/// Returns true if an act names an author by an invalid name, or everyone as an owner.
 fn names_badly(act: &Act) -> bool
     ensures { result ≡ machine.names_badly act.now }
 {
@@ -131,7 +131,8 @@ fn refuse_need(
     }
 }
 
-/// Why an author may not do an act that requires a right, or None: the visit does not suit, or the right is missing.
+/// Returns the reason an author may not do an act that requires a right, or None: the visit does not suit, or the right
+/// is missing.
 fn refuse_right(
     rights: &RightsBook,
     presence: &PresenceBook,
@@ -153,7 +154,7 @@ fn refuse_right(
     }
 }
 
-/// Why a visit does not suit, or None.
+/// Returns the reason a visit does not suit, or None.
 fn visit_refusal(
     presence: &PresenceBook,
     name: &Name,

@@ -1,4 +1,4 @@
-//! How many operations one answer holds.
+//! The operations that one answer holds.
 ghost use Rattle.std.specs.Prelude.{◌≡◌, ◌*◌, min, sum_by, take, MatchResult};
 ghost use Rattle.pad_model.specs.declared.refusal.Refusal.{Refusal};
 ghost use Rattle.std.specs.List.{filter};
@@ -62,7 +62,7 @@ pub fn copy_batch<S: Sequence>(
     Ok(copies)
 }
 
-/// Whether a peer can read an operation.
+/// Returns true if a peer can read an operation.
 fn can_read(version: Version, op: &Op) -> bool
     ensures { result ≡ exchange_spec.can_read version op.now }
 {

@@ -1,4 +1,4 @@
-//! Why changes of a revision are refused: the order of the reasons, for one insertion as for many changes.
+//! Refusals of changes of a revision: the order of the reasons, for one insertion as for many changes.
 ghost use Rattle.std.specs.Prelude.{◌≡◌, ◌≤◌, List, false};
 ghost use Rattle.pad_model.specs.declared.limits.TheConstants.{MAX_TEXT};
 ghost use Rattle.pad_core.specs.Delivered.{IsDelivered};
@@ -9,20 +9,20 @@ ghost use Rattle.pad_core.specs.declared.act.Change as change;
 use crate::ledger::Ledger;
 use pad_model::{MAX_CHARACTERS, MAX_COUNTER, MAX_OPERATIONS, Refusal, Sequence};
 
-/// What changes of a revision ask for, as far as a refusal depends on it.
+/// The demand of changes of a revision, as far as a refusal depends on it.
 #[derive(Clone, Copy)]
 pub struct Demand {
-    /// Whether one of them reaches outside the text of the revision.
+    /// True if one of them reaches outside the text of the revision.
     pub is_outside: bool,
-    /// Whether there is none, or one that does nothing.
+    /// True if there is none, or one that does nothing.
     pub is_idle: bool,
-    /// Whether they are too many, or insert and erase too many characters.
+    /// True if they are too many, or insert and erase too many characters.
     pub is_too_much: bool,
     /// The number of characters that they insert.
     pub growth: u64,
 }
 
-/// Why changes of a revision are refused, or None. The first refusal that applies is returned.
+/// Returns the reason changes of a revision are refused, or None. The first refusal that applies is returned.
 pub fn first_refusal<S: Sequence>(ledger: &Ledger<S>, rev: u64, demand: Demand) -> Option<Refusal>
     requires { demand.is_too_much ≡ false → demand.growth ≤ MAX_TEXT }
     ensures value { (changes : List change.Change) → Asks rev changes ledger.now demand

@@ -1,4 +1,4 @@
-//! What authors insert and erase.
+//! Insertions and deletions of authors.
 ghost use Rattle.std.specs.Prelude.{◌≡◌, ◌≤◌, ◌+◌, ◌||◌, ◌==◌, nat_lt, ◌∷◌, [], length, sum_by, min, IsTrue, None, MatchResult};
 ghost use Rattle.std.specs.List.{list_any};
 ghost use Rattle.pad_model.specs.Answers.{Answers};
@@ -189,7 +189,7 @@ pub fn make_op<S: Sequence>(
     })
 }
 
-/// Why changes of a revision are refused, or None.
+/// Returns the reason changes of a revision are refused, or None.
 fn refuse_edit<S: Sequence>(ledger: &Ledger<S>, rev: u64, changes: &[Change]) -> Option<Refusal>
     ensures value { result ≡ edit_refusal rev changes.now ledger.now }
     ensures sound { IsDelivered ledger.now }
@@ -224,7 +224,7 @@ fn is_any_outside(shown: u64, changes: &[Change]) -> bool
     changes.iter().any(|change| is_outside(shown, change))
 }
 
-/// Whether there is no change, or one that does nothing.
+/// Returns true if there is no change, or one that does nothing.
 fn are_idle(changes: &[Change]) -> bool
     ensures { result ≡ (length changes.now == 0 || list_any edits.is_blank changes.now) }
 {

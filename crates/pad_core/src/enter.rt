@@ -1,4 +1,4 @@
-//! What one more operation changes besides the log.
+//! The changes that one more operation makes besides the log.
 ghost use Rattle.std.specs.Prelude.{◌≡◌, ◌+◌, ◌≤◌, true, IsTrue, IfErr, OnOk, MatchResult, Some, None};
 ghost use Rattle.pad_model.specs.Checked.{is_checked};
 ghost use Rattle.pad_model.specs.History.{cells_of};

@@ -11,7 +11,7 @@ pub struct PadEvent<'a> {
     pub act: &'a Act,
 }
 
-/// What became of a claim.
+/// The outcome of a claim.
 #[derive(Clone, Copy, Debug, PartialEq, Eq)]
 pub enum Claim {
     /// The pad has the name now, and its owner this visit.

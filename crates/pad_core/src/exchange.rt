@@ -1,4 +1,4 @@
-//! What a peer reads of a pad: its vector, and the operations that the peer lacks.
+//! Reads of a pad by a peer: its vector, and the operations that the peer lacks.
 ghost use Rattle.std.specs.Prelude.{◌≡◌, ◌≤◌, IfOk, filter, slice_get, None};
 ghost use Rattle.pad_core.specs.Exchange.{given, sayable};
 ghost use Rattle.pad_core.specs.Exchange as exchange;
@@ -36,7 +36,7 @@ pub fn read_vector<S: Sequence>(ledger: &Ledger<S>, version: Version) -> Result<
     })
 }
 
-/// Whether a vector can be sent to a peer.
+/// Returns true if a vector can be sent to a peer.
 fn can_tell(version: Version, seen: &Seen) -> bool
     ensures { result ≡ exchange.can_tell version seen.now }
 {
@@ -119,7 +119,8 @@ fn pull_batch<S: Sequence>(
     })
 }
 
-/// Whether a peer can be given anything: an old one has to be able to read the first operation that it lacks, if any.
+/// Returns true if a peer can be given anything: an old one must be able to read the first operation that it lacks, if
+/// any.
 fn can_give<S: Sequence>(ledger: &Ledger<S>, version: Version, seen: &Seen) -> bool
     ensures { result ≡ exchange.can_give version
         (slice_get (filter (is_missing seen.now) ledger.now) 0) }
@@ -130,7 +131,7 @@ fn can_give<S: Sequence>(ledger: &Ledger<S>, version: Version, seen: &Seen) -> b
     }
 }
 
-/// What a peer is given of the operations that it lacks.
+/// Returns those of the missing operations that a peer is given.
 fn give(alloc: Global, version: Version, missing: Items<Op>) -> Result<Items<Op>, Refusal>
     ensures { Tells (given version missing) result }
 {
@@ -140,7 +141,7 @@ fn give(alloc: Global, version: Version, missing: Items<Op>) -> Result<Items<Op>
     }
 }
 
-/// What an old peer is given of the operations that it lacks.
+/// Returns those of the missing operations that an old peer is given.
 fn give_old(alloc: Global, missing: &[Op]) -> Result<Items<Op>, Refusal>
     ensures { Tells (given One missing.now) result }
 {

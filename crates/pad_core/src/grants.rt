@@ -1,4 +1,4 @@
-//! Who has which right.
+//! The rights of authors.
 ghost use Rattle.std.specs.Prelude.{◌≡◌};
 ghost use Rattle.pad_model.specs.Answers.{Answers};
 ghost use Rattle.pad_core.specs.Grants as grants;

@@ -1,4 +1,4 @@
-//! Whether an operation fits the contents of a pad.
+//! Checks of an operation against the contents of a pad.
 ghost use Rattle.std.specs.Prelude.{◌≡◌, ◌≤◌, IsTrue, length};
 ghost use Rattle.std.specs.List.{list_all};
 ghost use Rattle.pad_model.specs.Cell.{character_of};
@@ -12,7 +12,7 @@ ghost use Rattle.pad_core.specs.Judge as judge;
 use comments::CommentBook;
 use pad_model::{Op, Part, Sequence, Stamp};
 
-/// Whether each part fits the contents before the operation.
+/// Returns true if each part fits the contents before the operation.
 pub fn is_valid<S: Sequence>(sequence: &S, comments: &CommentBook, op: &Op) -> bool
     requires { IsTrue (is_checked op.now) }
     ensures { result ≡ fits (S.cells sequence.now) comments.now op.now.parts }
@@ -23,14 +23,14 @@ pub fn is_valid<S: Sequence>(sequence: &S, comments: &CommentBook, op: &Op) -> b
     are_notes(sequence, comments, op.parts.as_slice())
 }
 
-/// Whether each part is a comment or a resolution that fits.
+/// Returns true if each part is a comment or a resolution that fits.
 fn are_notes<S: Sequence>(sequence: &S, comments: &CommentBook, parts: &[Part]) -> bool
     ensures { result ≡ list_all (judge.note_fits (S.cells sequence.now) comments.now) parts.now }
 {
     parts.iter().all(|part| note_fits(sequence, comments, part))
 }
 
-/// Whether a comment or a resolution fits.
+/// Returns true if a comment or a resolution fits.
 fn note_fits<S: Sequence>(sequence: &S, comments: &CommentBook, part: &Part) -> bool
     ensures { result ≡ judge.note_fits (S.cells sequence.now) comments.now part.now }
 {
@@ -68,7 +68,7 @@ fn growth_of(part: &Part) -> u64
     }
 }
 
-/// Whether an operation comments.
+/// Returns true if an operation comments.
 pub fn is_comment(op: &Op) -> bool
     ensures { result ≡ log.is_comment op.now }
 {

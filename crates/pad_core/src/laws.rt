@@ -2,7 +2,8 @@
 ghost use Rattle.pad_core.specs.Laws.{SameSetLaw};
 ghost use Rattle.pad_core.specs.Listing.{ListingLaw};
 
-/// What a pad shows depends on the set of its operations alone: strong eventual consistency (Shapiro and others 2011).
+/// The contents that a pad shows depend on the set of its operations alone: strong eventual consistency (Shapiro and
+/// others 2011).
 pub fn same_set_law()
     ensures { SameSetLaw }
 {}

@@ -138,7 +138,7 @@ impl<S: Sequence> Ledger<S> {
         self.sequence.text_at(alloc, rev)
     }
 
-    /// Who wrote the text of a revision.
+    /// Returns the authors of the text of a revision, in runs.
     pub fn runs_at(&self, alloc: Global, rev: u64) -> Result<Items<AuthorRun>, Refusal>
         ensures { MatchResult result (λ runs. runs ≡ runs_of (characters_at rev self.now))
             (λ e. e ≡ Refusal.Memory) }
@@ -176,7 +176,7 @@ impl<S: Sequence> Ledger<S> {
         self.comments.list_at(alloc, &self.sequence, rev)
     }
 
-    /// Whether a name is a comment's.
+    /// Returns true if a name is a comment's.
     pub fn has_comment(&self, name: OpName) -> bool
         ensures { result ≡ notes.has_comment name self.now }
     {
@@ -222,8 +222,8 @@ impl<S: Sequence> Ledger<S> {
         self.log.name_at(place)
     }
 
-    /// Whether the first version of the wire can say the first operation that `seen` does not cover, if there is one. It
-    /// needs no memory.
+    /// Returns true if the first version of the wire can express the first operation that `seen` does not cover; None
+    /// if there is none. It needs no memory.
     pub fn first_missing_in_v1(&self, seen: &Seen) -> Option<bool>
         ensures { result ≡ option_map op_in_v1
             (slice_get (filter (is_missing seen.now) self.now) 0) }
@@ -252,7 +252,8 @@ impl<S: Sequence> Ledger<S> {
         self.log.missing(alloc, seen, max)
     }
 
-    /// Why an operation cannot be delivered, or None: it does not fit the contents, or the pad has no room for it.
+    /// Returns the reason an operation cannot be delivered, or None: it does not fit the contents, or the pad has no
+    /// room for it.
     pub fn refusal_of(&self, op: &Op) -> Option<Refusal>
         requires { IsTrue (is_checked op.now) }
         ensures { result ≡ delivery_refusal op.now self.now }

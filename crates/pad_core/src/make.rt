@@ -1,4 +1,4 @@
-//! How an edit becomes the parts of an operation.
+//! Makes the parts of an operation from an edit.
 ghost use Rattle.std.specs.Prelude.{◌≡◌, ◌+◌, ◌≤◌, ◌∷◌, [], false, length, None, IfOk, MatchResult};
 ghost use Rattle.pad_model.specs.Stamp.{IsInLimits};
 ghost use Rattle.pad_model.specs.Visible.{visible};

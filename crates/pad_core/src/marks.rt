@@ -1,4 +1,4 @@
-//! Which revisions have a name.
+//! The names of revisions.
 ghost use Rattle.std.specs.Prelude.{◌≡◌};
 ghost use Rattle.pad_model.specs.Answers.{Answers, Tells};
 ghost use Rattle.pad_core.specs.Marks as marks_spec;

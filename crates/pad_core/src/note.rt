@@ -1,4 +1,4 @@
-//! What authors comment, and what they resolve.
+//! Comments and resolutions of authors.
 ghost use Rattle.std.specs.Prelude.{◌≡◌, ◌≤◌, ◌+◌, ◌<◌, [], ◌∷◌, length, IsTrue, None, Some, MatchResult};
 ghost use Rattle.pad_model.specs.Answers.{Answers};
 ghost use Rattle.pad_model.specs.Checked.{is_checked, is_name};
@@ -99,7 +99,7 @@ fn note<S: Sequence>(
     })
 }
 
-/// Why a comment is refused, or None. The first refusal that applies is returned.
+/// Returns the reason a comment is refused, or None. The first refusal that applies is returned.
 fn refuse_comment<S: Sequence>(ledger: &Ledger<S>, passage: Passage, text: &Text) -> Option<Refusal>
     ensures value { result ≡ comment_refusal passage.rev passage.at passage.len text.now
         ledger.now }

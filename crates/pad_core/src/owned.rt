@@ -1,4 +1,4 @@
-//! What a claim gives a pad.
+//! The name, rights and named revisions that a claim gives a pad.
 ghost use Rattle.std.specs.Prelude.{◌≡◌, ◌+◌, [], Ok, Option, None, Some, MatchResult};
 ghost use Rattle.pad_model.specs.Answers.{Answers};
 ghost use Rattle.presence.specs.Presence.{Presence, joined};

@@ -55,7 +55,7 @@ pub struct Pad<S: Sequence> {
     ledger: Ledger<S>,
     held: Hold,
     presence: PresenceBook,
-    /// The time that it was told last, in milliseconds since 1970.
+    /// The last time that was reported to it, in milliseconds since 1970.
     clock: u64,
     times: TimeList,
 }
@@ -328,8 +328,8 @@ impl<S: Sequence> Pad<S> {
         ensures machine { IfOk result (λ replies. FoundMemory replies.items
             → ran.run events.now self.old ≡ (replies.items, self.new)) }
 
-        // What was read last of the present text, authors or comments depends on the set of the pad's operations alone: it is the
-        // answer of any other pad with the same ones.
+        // The last reply that reads the present text, authors or comments depends on the set of the pad's operations
+        // alone: any other pad with the same operations gives the same answer.
         ensures alike { IfOk result (λ replies. LastReadsAlike events.now replies.items
             self.new.log) }
     {

@@ -19,7 +19,7 @@ use op_log::TimeList;
 use pad_model::{Op, OpName, Refusal, Seen, Sequence};
 use std::alloc::Global;
 
-/// What a release did with held operations.
+/// The numbers of held operations that a release delivered and dropped.
 #[derive(Clone, Copy)]
 pub struct Released {
     pub delivered: u64,
@@ -103,7 +103,7 @@ fn hold_back(held: &mut Hold, op: &Op, seen: &Seen) -> Result<Pushed, Refusal>
     }
 }
 
-/// Whether an operation was delivered or is held.
+/// Returns true if an operation was delivered or is held.
 fn is_known<S: Sequence>(ledger: &Ledger<S>, held: &Hold, name: OpName) -> bool
     ensures { result ≡ (is_covered (vector_of ledger.now) name || is_held name held.now) }
 {

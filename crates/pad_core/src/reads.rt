@@ -1,4 +1,4 @@
-//! What authors read of a pad's log.
+//! Reads of a pad's log by authors.
 ghost use Rattle.std.specs.Prelude.{◌≡◌, ℕ, ◌+◌, ◌≤◌, IfOk, length, map};
 ghost use Rattle.op_log.specs.Times.{count_until};
 ghost use Rattle.pad_model.specs.Answers.{Tells};
@@ -11,13 +11,13 @@ use op_log::TimeList;
 use pad_model::{Author, Items, Op, Part, Refusal, Sequence};
 use std::alloc::{AllocError, Global};
 
-/// How many revisions one request may list.
+/// The most revisions that one request may list.
 pub const MAX_ENTRIES: u64 = 100;
 
-/// Of how many revisions one request may ask for the times.
+/// The most revisions for whose times one request may ask.
 pub const MAX_TIMES: u64 = 1_000;
 
-/// For how many moments one request may ask for the revisions.
+/// The most moments for whose revisions one request may ask.
 pub const MAX_MOMENTS: u64 = 100;
 
 /// The most seconds that an answer may be asked to wait.
@@ -40,7 +40,7 @@ pub fn read_text<S: Sequence>(
     Ok(PadReply::Text { now, rev, text })
 }
 
-/// Who wrote the text of a revision.
+/// Reads the authors of the text of a revision.
 pub fn read_runs<S: Sequence>(
     alloc: Global,
     ledger: &Ledger<S>,
@@ -74,7 +74,7 @@ pub fn read_comments<S: Sequence>(
     Ok(PadReply::Comments { now, rev, comments })
 }
 
-/// What leads from the text of one revision to that of another.
+/// Reads the changes that lead from the text of one revision to that of another.
 pub fn read_changes<S: Sequence>(
     alloc: Global,
     ledger: &Ledger<S>,
@@ -144,7 +144,7 @@ pub fn read_entries<S: Sequence>(
     })
 }
 
-/// When some revisions were made: `from`, and others each `step` further on.
+/// Reads the times at which some revisions were made: `from`, and others each `step` further on.
 pub fn read_times<S: Sequence>(
     alloc: Global,
     ledger: &Ledger<S>,
@@ -227,7 +227,7 @@ fn revs_at(alloc: Global, times: &TimeList, moments: &[u64]) -> Result<Vec<u64>,
     Ok(list)
 }
 
-/// Who wrote the character that a revision shows at a place, in which revision, and when.
+/// Reads the author of the character that a revision shows at a place, the revision that inserted it, and its time.
 pub fn read_birth<S: Sequence>(
     ledger: &Ledger<S>,
     times: &TimeList,
@@ -251,7 +251,7 @@ pub fn read_birth<S: Sequence>(
     })
 }
 
-/// When a revision was made.
+/// Returns the time at which a revision was made.
 fn time_of(times: &TimeList, rev: u64) -> Option<u64>
     ensures { result ≡ reads.time_of rev times.now.times }
 {

@@ -1,4 +1,4 @@
-//! What was recorded of a pad, compared with its log.
+//! Compares the records of a pad with its log.
 ghost use Rattle.std.specs.Prelude.{◌≡◌, ◌≤◌, ◌<◌, [], None, IfOk, IfErr, OnOk, length, take};
 ghost use Rattle.std.specs.List.{list_any};
 ghost use Rattle.pad_core.specs.Audit.{IsFault, IsRead, first_fault};
@@ -19,7 +19,7 @@ pub enum Recorded {
     Edit { name: OpName, rev: u64 },
 }
 
-/// Why an audit ends before the last record.
+/// The reason an audit ends before the last record.
 #[derive(Clone, Copy, Debug, PartialEq, Eq)]
 pub enum AuditError {
     /// The record at this place, from 0, is the first that does not agree with the log.
@@ -59,7 +59,7 @@ fn audit_log<S: Sequence>(
     Ok(())
 }
 
-/// Whether a record agrees, after those before it.
+/// Returns true if a record agrees, after those before it.
 fn agrees<S: Sequence>(
     alloc: Global,
     ledger: &Ledger<S>,
@@ -83,7 +83,7 @@ fn agrees<S: Sequence>(
     }
 }
 
-/// Whether the operation of a name made a revision.
+/// Returns true if the operation of a name made a revision.
 fn stands_at<S: Sequence>(ledger: &Ledger<S>, name: OpName, rev: u64) -> bool
     ensures { result ≡ audit_spec.stands_at name rev ledger.now }
 {
@@ -96,7 +96,7 @@ fn stands_at<S: Sequence>(ledger: &Ledger<S>, name: OpName, rev: u64) -> bool
     }
 }
 
-/// Whether an edit with a name is among records.
+/// Returns true if an edit with a name is among the records.
 fn is_recorded(before: &[Recorded], name: OpName) -> bool
     ensures { result ≡ list_any (audit_spec.is_edit_of name) before.now }
 {

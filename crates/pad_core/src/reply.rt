@@ -5,7 +5,7 @@ use pad_model::{Author, AuthorRun, Items, Name, Op, OpName, Piece, Seen, Text, V
 use rights::{Grant, Right};
 use sessions::Word;
 
-/// What an operation does, in a word.
+/// The effect of an operation, in a word.
 #[derive(Clone, Copy, Debug, PartialEq, Eq)]
 pub enum Kind {
     Insert,
@@ -54,7 +54,7 @@ pub struct Person {
     pub name: Word,
 }
 
-/// What became of a pushed operation.
+/// The outcome of a pushed operation.
 #[derive(Clone, Copy, Debug, PartialEq, Eq)]
 pub enum Pushed {
     /// It was delivered or held before.
@@ -65,7 +65,7 @@ pub enum Pushed {
     Delivered,
 }
 
-/// What a pad answers. `now` is the present revision, after the act.
+/// The answer of a pad. `now` is the present revision, after the act.
 #[derive(Debug, Drop)]
 pub enum PadReply {
     /// The pad has another name.
@@ -96,7 +96,7 @@ pub enum PadReply {
         rev: u64,
         text: Text,
     },
-    /// Who wrote the text of a revision.
+    /// The authors of the text of a revision.
     Runs {
         now: u64,
         rev: u64,
@@ -128,7 +128,7 @@ pub enum PadReply {
         now: u64,
         entries: Items<LogEntry>,
     },
-    /// When some revisions were made, in milliseconds since 1970.
+    /// The times at which some revisions were made, in milliseconds since 1970.
     Times {
         now: u64,
         times: Items<u64>,
@@ -138,19 +138,19 @@ pub enum PadReply {
         now: u64,
         revs: Items<u64>,
     },
-    /// Who wrote a character, in which revision, and when, in milliseconds since 1970.
+    /// The author of a character, the revision that inserted it, and its time, in milliseconds since 1970.
     Birth {
         now: u64,
         author: Author,
         rev: u64,
         at: u64,
     },
-    /// Who is present, in order of joining.
+    /// Those present, in order of joining.
     Who {
         now: u64,
         who: Items<Present>,
     },
-    /// Who has which right: the owner first, then everyone, then by first grant.
+    /// The rights of each grantee: the owner first, then everyone, then by first grant.
     Rights {
         now: u64,
         rights: Items<Grant>,
@@ -165,7 +165,7 @@ pub enum PadReply {
         now: u64,
         seen: Seen,
     },
-    /// What became of a pushed operation, and how many held operations were then delivered and dropped.
+    /// The outcome of a pushed operation, and the numbers of held operations that were then delivered and dropped.
     Pushed {
         now: u64,
         state: Pushed,
@@ -179,14 +179,14 @@ pub enum PadReply {
     },
 }
 
-/// What a server answers to a session.
+/// The answer of a server to a session.
 #[derive(Debug, Drop)]
 pub enum Reply {
     /// The session is now this author's.
     Hello { author: Author },
     /// The session is a peer's now: the replica number of this server, and the version that the peer can read.
     Peer { replica: u16, version: Version },
-    /// What the pad answers. A pad that was created answers that its creator joined.
+    /// The answer of the pad. A pad that was created answers that its creator joined.
     Pad(PadReply),
     /// The pads that the author may read, in the order of their cells.
     Pads { pads: Items<Listed> },

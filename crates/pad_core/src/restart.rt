@@ -1,4 +1,4 @@
-//! How the parts of a pad are restored after a restart.
+//! Restores the parts of a pad after a restart.
 ghost use Rattle.std.specs.Prelude.{◌≡◌, ◌≤◌, length, ◌++◌, ◌∷◌, [], IsTrue, Ok, Option, None, Some};
 ghost use Rattle.pad_model.specs.Answers.{Answers};
 ghost use Rattle.presence.specs.Presence.{Presence, joined};
@@ -18,7 +18,7 @@ use presence::PresenceBook;
 use rights::{Grantee, Right};
 use std::alloc::Global;
 
-/// Gives a pad without a name this name and owner, whose visit has ended.
+/// Gives an unnamed pad this name and owner, and ends the owner's visit.
 pub fn own_again(
     alloc: Global,
     owned: &mut Option<Owned>,
@@ -114,7 +114,7 @@ pub fn deliver_again<S: Sequence>(
     Ok(())
 }
 
-/// Whether a name is the next of its origin.
+/// Returns true if a name is the next of its origin.
 fn is_next(seen: &Seen, name: OpName) -> bool
     ensures { result ≡ restart.is_next seen.now name }
 {

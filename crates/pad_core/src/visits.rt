@@ -1,4 +1,4 @@
-//! Who is present, and where their carets are.
+//! Those present, and their carets.
 ghost use Rattle.std.specs.Prelude.{◌≡◌, IfOk, length, map, true};
 ghost use Rattle.std.specs.List.{list_any};
 ghost use Rattle.pad_model.specs.Answers.{Answers};
@@ -68,7 +68,7 @@ pub fn put_caret<S: Sequence>(
     Ok(PadReply::Done { now })
 }
 
-/// Who is present, in order of joining.
+/// Reads those present, in order of joining.
 pub fn read_who<S: Sequence>(
     alloc: Global,
     ledger: &Ledger<S>,

@@ -1,4 +1,4 @@
-//! Who writes, and where.
+//! The author that writes, and the passage.
 ghost use Rattle.std.specs.Prelude.{◌≡◌};
 
 use pad_model::Name;

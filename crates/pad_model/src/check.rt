@@ -8,7 +8,7 @@ use crate::op::{Op, Part, Run, Span};
 use crate::seen::Counted;
 use crate::stamp::Stamp;
 
-/// Whether an operation is within its limits.
+/// Returns true if an operation is within its limits.
 pub fn is_checked(op: &Op) -> bool
     ensures { result ≡ is_checked op.now }
 {
@@ -44,7 +44,7 @@ fn are_parts(origin: u16, parts: &[Part]) -> bool
         && counters_rise(parts)
 }
 
-/// Whether all parts only insert and erase.
+/// Returns true if all parts only insert and erase.
 pub fn are_edits(parts: &[Part]) -> bool
     ensures { result ≡ list_all is_edit parts.now }
 {
@@ -99,7 +99,7 @@ fn fits_clock(first: Stamp, len: u64) -> bool
     first.counter().saturating_add(len) <= MAX_COUNTER + 1
 }
 
-/// Whether each insertion's counters are above those of the one before it.
+/// Returns true if each insertion's counters are above those of the one before it.
 fn counters_rise(parts: &[Part]) -> bool
     requires { sum_by part_size parts.now ≤ MAX_TEXT }
     ensures { result ≡ counters_rise 0 parts.now }

@@ -75,14 +75,14 @@ impl Name {
         self.text.as_str()
     }
 
-    /// Whether this name has exactly this text.
+    /// Returns true if the name has exactly this text.
     pub fn is(&self, text: &str) -> bool
         ensures { IsTrue result ↔ (self.now ≡ text.now) }
     {
         self.text.as_str() == text
     }
 
-    /// Whether an author can have this name: 1 to 32 characters of a-z, 0-9 and -.
+    /// Returns true if an author can have this name: 1 to 32 characters of a-z, 0-9 and -.
     pub fn is_well_formed(&self) -> bool
         ensures { result ≡ is_name self.now }
     {
@@ -90,7 +90,7 @@ impl Name {
     }
 }
 
-/// Whether a pad or an author can have this name: 1 to 32 characters of a-z, 0-9 and -.
+/// Returns true if a pad or an author can have this name: 1 to 32 characters of a-z, 0-9 and -.
 pub fn is_well_formed_name(text: &str) -> bool
     ensures { result ≡ is_name text.now }
 {

@@ -1,4 +1,4 @@
-//! What version 1 of the wire can express.
+//! The operations and version vectors that version 1 of the wire can express.
 ghost use Rattle.std.specs.Prelude.{◌≡◌};
 ghost use Rattle.std.specs.List.{list_all};
 ghost use Rattle.pad_model.specs.OldWire.{old_stamps, old_parent, old_part, seen_in_v1, op_in_v1};
@@ -8,7 +8,7 @@ use crate::op::{Op, Part, Span};
 use crate::seen::Seen;
 use crate::stamp::Stamp;
 
-/// Whether version 1 of the wire can express the operation.
+/// Returns true if version 1 of the wire can express the operation.
 pub fn op_in_v1(op: &Op) -> bool
     ensures { result ≡ op_in_v1 op.now }
 {
@@ -18,7 +18,7 @@ pub fn op_in_v1(op: &Op) -> bool
         && seen_in_v1(&op.seen)
 }
 
-/// Whether version 1 of the wire can express the version vector.
+/// Returns true if version 1 of the wire can express the version vector.
 pub fn seen_in_v1(seen: &Seen) -> bool
     ensures { result ≡ seen_in_v1 seen.now }
 {
@@ -61,7 +61,7 @@ fn is_old_parent(parent: Option<Stamp>) -> bool
     }
 }
 
-/// Whether version 1 can express `len` consecutive stamps that start with `first`.
+/// Returns true if version 1 can express `len` consecutive stamps that start with `first`.
 fn has_old_stamps(first: Stamp, len: u64) -> bool
     ensures { result ≡ old_stamps first len }
 {

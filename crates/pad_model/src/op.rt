@@ -20,7 +20,7 @@ pub struct OpName {
 }
 
 impl OpName {
-    /// Whether it comes before another name: by origin, then by number.
+    /// Returns true if it comes before another name: by origin, then by number.
     pub fn precedes(self, other: OpName) -> bool
         ensures { result ≡ precedes self other }
     {
@@ -105,7 +105,7 @@ impl Op {
         self == other
     }
 
-    /// Whether it only inserts and erases. Each operation of several parts does.
+    /// Returns true if it only inserts and erases. Each operation of several parts does.
     pub fn is_edit(&self) -> bool
         ensures { result ≡ list_all is_edit self.now.parts }
     {

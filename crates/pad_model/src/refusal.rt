@@ -1,11 +1,12 @@
-//! Why a request is refused: each refusal has a name and a number.
+//! The reasons to refuse a request: each refusal has a name and a number.
 ghost use Rattle.std.specs.Prelude.{◌≡◌, codes};
 ghost use Rattle.pad_model.specs.Refusals.{code_of, name_of};
 ghost use Rattle.pad_model.specs.declared.refusal.Refusal.TheVariants.{Memory};
 
 use std::alloc::{AllocError, AllocFailed};
 
-/// Why a request or a call was refused. A refused call changes nothing, unless its documentation says otherwise.
+/// The reason why a request or a call was refused. A refused call changes nothing, unless its documentation says
+/// otherwise.
 #[derive(Clone, Copy, Debug, PartialEq, Eq)]
 pub enum Refusal {
     /// 100: a line is longer than 8 MiB.

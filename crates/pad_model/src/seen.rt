@@ -73,7 +73,7 @@ impl Seen {
         }
     }
 
-    /// Whether an operation was delivered.
+    /// Returns true if an operation was delivered.
     pub fn covers(&self, name: OpName) -> bool
         ensures { IsTrue result ↔ (name.number ≤ count_in self.now name.origin) }
     {

@@ -83,7 +83,7 @@ pub trait Sequence: Drop {
         ensures { Answers (cells self.old) (parts_spec.apply rev parts.now author.now (cells self.old))
             result (cells self.new) };
 
-    /// Whether each part of an operation of this origin fits the cells, as `apply` requires.
+    /// Returns true if each part of an operation of this origin fits the cells, as `apply` requires.
     fn fits(&self, parts: &[Part], origin: u16) -> bool
         requires checked { IsTrue (are_parts origin parts.now) }
         ensures { result ≡ list_all (part_fits character_of (cells self.now)) parts.now };
@@ -128,11 +128,11 @@ pub trait Sequence: Drop {
     fn through(&self, stamp: Stamp, rev: u64) -> Option<u64>
         ensures { result ≡ through_at rev (cells self.now) stamp };
 
-    /// Whether `a` is `b` or comes before it, erased or not; None if one of them is missing.
+    /// Returns true if `a` is `b` or comes before it, erased or not; None if one of them is missing.
     fn stands_before(&self, a: Stamp, b: Stamp) -> Option<bool>
         ensures { result ≡ is_before (cells self.now) a b };
 
-    /// Whether the sequence has a character, erased or not.
+    /// Returns true if the sequence has a character, erased or not.
     fn has(&self, stamp: Stamp) -> bool
         ensures { result ≡ has_stamp character_of (cells self.now) stamp };
 

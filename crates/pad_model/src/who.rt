@@ -21,7 +21,7 @@ pub enum Version {
     Two,
 }
 
-/// Who a session belongs to.
+/// The author that a session belongs to.
 #[derive(Clone, Debug, PartialEq, Drop)]
 pub enum Who {
     Nobody,

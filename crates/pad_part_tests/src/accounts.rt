@@ -1,4 +1,4 @@
-//! Which accounts files are read, and which tokens they accept.
+//! The accounts files that are read, and the tokens that they accept.
 use sessions::{Accounts, AccountsError, Peer};
 use std::alloc::Global;
 use std::process::Abort;

@@ -1,4 +1,5 @@
-//! Who wrote what: runs that are cut and joined, compared with results worked out by hand, and memory that is reserved.
+//! The authors of a text: runs that are cut and joined, compared with results worked out by hand, and memory that is
+//! reserved.
 use crate::author_runs::RunCase::{By, Len, Put, Runs, Take};
 use authorship::RunList;
 use pad_model::{Author, AuthorRun, Name, Refusal};
@@ -53,7 +54,7 @@ pub fn author_at(list: &RunList, pos: u64) -> Option<&Author> {
     }
 }
 
-/// Whether there is a character at a place, and it is this author's.
+/// Returns true if there is a character at a place, and it is this author's.
 pub fn is_by(list: &RunList, pos: u64, name: &str) -> bool {
     match author_at(list, pos) {
         Some(author) => is_author(author, name),
@@ -92,7 +93,7 @@ fn are_runs(
     Ok(())
 }
 
-/// A change to a list, or what the list shows.
+/// A change to a list, or the state that the list shows.
 #[derive(Clone, Copy, Debug)]
 enum RunCase {
     Put(u64, &'static str, u64),
@@ -102,7 +103,7 @@ enum RunCase {
     Len(u64),
 }
 
-/// Makes a change, or asserts that the list shows what the step says.
+/// Makes a change, or asserts that the list shows the state of the step.
 fn play(
     rt: &impl Abort,
     alloc: Global,

@@ -1,4 +1,5 @@
-//! Who may do what with a pad, compared with results worked out by hand, and the number of names that a pad can hold.
+//! The rights of authors on a pad, compared with results worked out by hand, and the number of names that a pad can
+//! hold.
 use crate::grants::GrantCase::{Counts, Grants, Hands, Lists, May};
 use pad_model::{Name, Refusal};
 use rights::Right::{Comment, Own, Read, Write};

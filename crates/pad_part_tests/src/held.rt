@@ -77,7 +77,7 @@ fn found(alloc: Global, found: Option<&Op>, made: Made) -> Result<HoldAnswer, Re
     }
 }
 
-/// A hold, and the version vector of what was delivered.
+/// A hold, and the version vector of the delivered operations.
 #[derive(Drop)]
 pub struct HoldRig {
     pub hold: Hold,

@@ -16,7 +16,7 @@ fn roll_origin(dice: &mut Dice) -> u16 {
     }
 }
 
-/// Returns some operation. A third of them are close to what was delivered. Some wait for a greater origin, so that not
+/// Returns some operation. A third of them are close to the delivered ones. Some wait for a greater origin, so that not
 /// all wait for ever.
 fn some_operation(dice: &mut Dice, seen: &Seen) -> Made {
     let origin = roll_origin(dice);

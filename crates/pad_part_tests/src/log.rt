@@ -1,4 +1,4 @@
-//! The log of a pad: stretches of it, places, and what a peer lacks, as someone counts them.
+//! The log of a pad: stretches of it, places, and the operations that a peer lacks, as someone counts them.
 use dice::Dice;
 use op_log::OpLog;
 use pad_model::{Items, Name, Op, OpName, Part, Run, Seen, Span, Stamp, Text};
@@ -82,7 +82,7 @@ fn is_same(
     Ok(())
 }
 
-/// Sees that so many operations are of each origin.
+/// Asserts the count of each origin.
 fn are_counts(rt: &impl Abort, log: &OpLog, counts: &[(u16, u64)]) {
     for (origin, want) in counts {
         let came = log.count(*origin);
@@ -134,7 +134,7 @@ fn operations_by_place_origin_and_name(rt: HostRuntime) -> Result<(), Fail> {
     Ok(())
 }
 
-/// The operations of an example: ann types `abcd`, of which she erases `bc`, and bob types an `X` behind the `b`.
+/// The operations of an example: ann types `abcd`, of which she erases `bc`, and bob types an `X` after the `b`.
 #[derive(Clone, Copy)]
 enum Example {
     Typed,
@@ -247,7 +247,7 @@ fn some_names(alloc: Global, dice: &mut Dice) -> Result<LogNames, Fail> {
     Ok(names)
 }
 
-/// What was seen of the origins 7, 2 and 300.
+/// The numbers of operations seen of the origins 7, 2 and 300.
 type Counts = (u64, u64, u64);
 
 fn count_of(counts: Counts, origin: u16) -> u64 {
@@ -276,7 +276,7 @@ fn lacking(alloc: Global, names: &[(u16, u64)], counts: Counts) -> Result<LogNam
     Ok(lacking)
 }
 
-/// The first that are lacking, at most so many.
+/// The first operations that are lacking, at most `max`.
 fn pulled(alloc: Global, log: &OpLog, counts: Counts, max: u64) -> Result<LogNames, Fail> {
     let seen = seen_of(alloc, counts)?;
     let answer = log.missing(alloc, &seen, max)?;
@@ -289,7 +289,7 @@ fn first_of(names: &[(u16, u64)], max: u64) -> &[(u16, u64)] {
 
 const LENGTHS: &[u64] = &[0, 1, 4, u64::MAX];
 
-/// Sees that a pull of each length is that of the plain filter.
+/// Asserts that a pull of each length is that of the plain filter.
 fn pulls(
     rt: &impl Abort,
     alloc: Global,
@@ -309,11 +309,12 @@ fn pulls(
     Ok(())
 }
 
-/// In how many logs some are lacking, some covered, some left over by a pull of four, and some numbers fall.
+/// The numbers of logs in which some are lacking, some covered, some left over by a pull of four, and some numbers
+/// fall.
 #[derive(Clone, Copy, Debug)]
 struct Cases([u64; 4]);
 
-/// Whether a name comes right behind one of its origin with a greater number.
+/// Returns true if a name comes directly after one of its origin with a greater number.
 fn numbers_fall(names: &[(u16, u64)]) -> bool {
     let mut before = (0, 0);
     for name in names {

@@ -155,7 +155,7 @@ fn letter(alloc: Global, place: u64) -> Result<Op, Fail> {
     })
 }
 
-/// How many operations, over three pages and some.
+/// The number of operations: three pages and some.
 const LONG: u64 = 200;
 
 #[test]
@@ -190,7 +190,7 @@ fn a_long_log_comes_back(rt: HostRuntime) -> Result<(), Fail> {
     Ok(())
 }
 
-/// Whether the first version of the wire can say what is missing first.
+/// Asserts that a log reports whether the first version of the wire can represent the operation that is missing first.
 #[test]
 fn an_old_peer_can_be_given_the_first(rt: HostRuntime) -> Result<(), Fail> {
     let alloc = rt.alloc();

@@ -1,4 +1,4 @@
-//! Which hashes and persons are read from an accounts file, and what they give.
+//! The hashes and persons that are read from an accounts file, and their effect.
 use pad_model::Name;
 use sessions::{Accounts, AccountsError, Mistake};
 use std::alloc::Global;

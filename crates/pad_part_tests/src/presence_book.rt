@@ -1,4 +1,4 @@
-//! Who is present on a pad, and which pads a session has joined, compared with results worked out by hand.
+//! The visits present on a pad, and the pads that a session has joined, compared with results worked out by hand.
 use crate::presence_book::VisitCase::{Caret, Holds, Join, Leave, Present};
 use pad_model::{Name, Refusal, Stamp, Version, Who};
 use presence::{DEFAULT_PRESENT, MAX_PRESENT, PresenceBook, Visit};
@@ -13,7 +13,7 @@ type CaretStamp = (u64, u16);
 /// A visit's number, its author, and its caret.
 type Plain = (u64, &'static str, Option<CaretStamp>);
 
-/// A call of a book and its result, or what the book shows.
+/// A call of a book and its result, or the state that the book shows.
 #[derive(Clone, Copy, Debug)]
 enum VisitCase {
     Join(&'static str, Result<u64, Refusal>),
@@ -72,7 +72,7 @@ fn are_present(
     Ok(())
 }
 
-/// Makes a call, or asserts that the book shows what the step says.
+/// Makes a call, or asserts that the book shows the state of the step.
 fn play(
     rt: &impl Abort,
     alloc: Global,
@@ -259,7 +259,7 @@ fn enter(
     Ok(())
 }
 
-/// Whether this is the room of a pad, with its cell and the visit; or there is none, if none is wanted.
+/// Returns true if this is the room of a pad, with its cell and the visit, or if there is none and none is wanted.
 fn is_room(room: Option<&Room>, want: Option<(&str, u32, u64)>) -> bool {
     match (room, want) {
         (Some(room), Some((pad, cell, visit))) => {

@@ -39,7 +39,7 @@ impl Plain {
         NAMES.get(*place).copied()
     }
 
-    /// Whether the characters from a place on are the run's.
+    /// Returns true if the characters from a place on are the run's.
     fn has_run(&self, pos: usize, run: &AuthorRun) -> bool {
         for ahead in 0..run.len {
             match self.name_at(pos.saturating_add(ahead as usize)) {
@@ -63,7 +63,7 @@ impl Plain {
         starts
     }
 
-    /// Whether a stretch that starts with another author's character has the same author on both sides.
+    /// Returns true if a stretch that starts with another author's character has the same author on both sides.
     fn joins(&self, pos: usize, n: usize) -> bool {
         if pos == 0 || n == 0 {
             return false;
@@ -73,7 +73,7 @@ impl Plain {
     }
 }
 
-/// Whether the runs have the authors of the plain list, and are as few as possible.
+/// Returns true if the runs have the authors of the plain list, and are as few as possible.
 fn are_runs_of(rows: &[AuthorRun], plain: &Plain) -> bool {
     let mut pos = 0usize;
     for row in rows {
@@ -85,7 +85,7 @@ fn are_runs_of(rows: &[AuthorRun], plain: &Plain) -> bool {
     pos == plain.places.len() && rows.len() == plain.count_starts()
 }
 
-/// Whether a character has the plain list's author.
+/// Returns true if a character has the plain list's author.
 fn is_author_of(list: &RunList, plain: &Plain, pos: usize) -> bool {
     match plain.name_at(pos) {
         Some(name) => is_by(list, pos as u64, name),

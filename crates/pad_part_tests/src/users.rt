@@ -1,4 +1,4 @@
-//! Which author a user of a proxy is, and what is shown of one who has no line.
+//! The author that a user of a proxy is, and the display name of one who has no line.
 use pad_model::Name;
 use sessions::{Accounts, Stranger};
 use std::alloc::Global;
@@ -11,7 +11,7 @@ person cyd cyd@example.org Cyd of the Fen
 person dan-px - Dan
 ";
 
-/// Who a user is.
+/// The author that a user is, or the reason why there is none.
 #[derive(Clone, Copy, Debug, PartialEq, Eq)]
 enum LookedUp {
     Author(&'static str),
@@ -20,7 +20,7 @@ enum LookedUp {
     Taken,
 }
 
-/// Users, and who they are if any user is an author, by the table of docs/RUNNING.md.
+/// Users, and their authors if any user is an author, by the table of docs/RUNNING.md.
 const USERS: &[(&[u8], LookedUp)] = &[
     (b"cyd@example.org", LookedUp::Author("cyd")),
     (b"eve", LookedUp::Author("eve")),
@@ -90,7 +90,7 @@ fn only_persons_are_authors(rt: HostRuntime) -> Result<(), Fail> {
     Ok(())
 }
 
-/// Names, and what is shown for them if any user is an author.
+/// Names, and their display names if any user is an author.
 const SHOWN: &[(&str, Option<&str>)] = &[
     ("cyd", Some("Cyd of the Fen")),
     ("dan-px", Some("Dan")),

@@ -13,18 +13,18 @@ use command_line::{
 };
 use std::alloc::{AllocError, Global};
 
-/// What the command line asks for.
+/// The arguments of the command line.
 #[derive(Clone, Copy)]
 pub struct ReplayArguments<'a> {
     /// The replica number of a server whose title does not name one, at least 1.
     pub replica: u16,
-    /// How many pads a server has room for, 1 to 4,096.
+    /// The number of pads that a server has room for, 1 to 4,096.
     pub cells: u32,
-    /// How many visits may be present on a pad at once, 1 to 1,024.
+    /// The number of visits that may be present on a pad at once, 1 to 1,024.
     pub present: u64,
     /// The path of the accounts file.
     pub accounts: &'a str,
-    /// Whether pads keep their characters in the plain sequence, which is slow, instead of blocks. The replies are the
+    /// True if pads keep their characters in the plain sequence, which is slow, instead of blocks. The replies are the
     /// same.
     pub plain: bool,
 }
@@ -63,7 +63,7 @@ fn command<'a>(alloc: Global) -> Result<Command<'a>, AllocError>
         .arg(plain_flag(alloc))
 }
 
-/// What the words of the command line ask for, or what is wrong with them.
+/// Parses the words of the command line: returns their arguments, or the error in them.
 pub fn parse<'a>(alloc: Global, words: &'a [String]) -> Result<ReplayArguments<'a>, Error>
     ensures asked { IfOk result (AsksFor (map string_bytes words.now)) }
     ensures refused { FailsBy (fault_of line (map string_bytes words.now)) result }

@@ -1,4 +1,4 @@
-//! Why a story could not be played.
+//! The reason why a story could not be played.
 ghost use Rattle.std.specs.Prelude.{◌≡◌};
 ghost use Rattle.std.specs.Process.{exit_status};
 ghost use Rattle.pad_replay.specs.Status.{status};
@@ -9,7 +9,7 @@ use std::alloc::{AllocError, AllocFailed};
 use std::process::ExitCode;
 use std::{fmt, io};
 
-/// Why a story could not be played.
+/// The reason why a story could not be played.
 #[derive(Drop)]
 pub enum StoryFault {
     /// A line of the accounts file is invalid.

@@ -1,7 +1,7 @@
 //! The lines of a story.
 ghost use Rattle.std.specs.Prelude.{◌≤◌, IfSome};
 
-/// What a line of a story says.
+/// The meaning of a line of a story.
 #[derive(Clone, Copy)]
 pub enum StoryLine<'a> {
     /// A title: a new server begins, with this replica number if the title names one.

@@ -1,4 +1,4 @@
-//! Plays a story: reads its lines, and writes what is repeated and the replies.
+//! Plays a story: reads its lines, and writes the repeated lines and the replies.
 use crate::fault::StoryFault;
 use crate::line::StoryLine;
 use crate::story_server::StoryServer;

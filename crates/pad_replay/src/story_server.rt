@@ -17,7 +17,7 @@ use wire_json::{read_request, reply_line};
 pub struct StoryServer<S: Sequence> {
     /// The replica number of a server whose title does not name one.
     replica: u16,
-    /// How many visits may be present on a pad at once.
+    /// The number of visits that may be present on a pad at once.
     present: u64,
     cells: u32,
     accounts: Vec<u8>,
@@ -128,7 +128,7 @@ impl<S: Sequence> StoryServer<S> {
         Ok(self.server.open(alloc)?)
     }
 
-    /// Makes a step, and continues what it began until that is done.
+    /// Makes a step, and continues the work that it began until that is done.
     fn finish(
         &mut self,
         alloc: Global,

@@ -19,7 +19,7 @@ use command_line::{
 };
 use std::alloc::{AllocError, Global};
 
-/// What the words of the command line give.
+/// The arguments that the words of the command line give.
 #[derive(Clone, Copy)]
 pub struct ServerArguments<'a> {
     /// The replica number of this server, at least 1.
@@ -30,7 +30,7 @@ pub struct ServerArguments<'a> {
     pub present: u64,
     /// The path of the accounts file.
     pub accounts: Option<&'a str>,
-    /// Whether to serve standard input and output.
+    /// True if standard input and output are served.
     pub stdin: bool,
     /// The address at which to serve connections.
     pub listen: Option<&'a str>,
@@ -46,27 +46,27 @@ pub struct ServerArguments<'a> {
     pub idle: Option<u32>,
     /// The directory in which pads are stored. None: they are lost when the server ends.
     pub store: Option<&'a str>,
-    /// Whether no server has used the replica number before. Then the store may be that of another number.
+    /// True if no server has used the replica number before. Then the store may be that of another number.
     pub new_replica: bool,
     /// The number of the peer that has a copy of the store. None: no peer has one.
     pub standby: Option<u16>,
     /// The number of the peer of whose store this server keeps a copy until it is promoted. None: it serves pads.
     pub standby_of: Option<u16>,
-    /// What replies wait for: so many seconds, or `strict`. None: they do not wait for the standby.
+    /// The condition that replies wait for: a number of seconds, or `strict`. None: they do not wait for the standby.
     pub confirm: Option<&'a str>,
-    /// Whether the page says that this program was built without proofs.
+    /// True if the page says that this program was built without proofs.
     pub unproved: bool,
-    /// Whether each log-in is logged.
+    /// True if each log-in is logged.
     pub log_access: bool,
     /// The address at which to serve the page for browsers.
     pub web: Option<&'a str>,
-    /// The origins whose pages may connect beside the server's own, separated by commas.
+    /// The origins whose pages may connect besides the server's own, separated by commas.
     pub web_origins: Option<&'a str>,
     /// The field by which a proxy names the user of a request. None: no proxy does.
     pub user_header: Option<&'a str>,
     /// The addresses of the proxies from which that field is taken, separated by commas. None: 127.0.0.1 alone.
     pub trusted_proxies: Option<&'a str>,
-    /// Whether any user whom a proxy names is an author, also one who has no line in the accounts file.
+    /// True if any user whom a proxy names is an author, even one who has no line in the accounts file.
     pub any_user: bool,
     /// The address at which operators ask for the status.
     pub status: Option<&'a str>,
@@ -158,7 +158,7 @@ fn command<'a>(alloc: Global) -> Result<Command<'a>, AllocError>
         .arg(any_user_flag(alloc))
 }
 
-/// What the words of the command line give, or what is wrong with them.
+/// Parses the words of the command line: returns their arguments, or the error in them.
 pub fn parse<'a>(alloc: Global, words: &'a [String]) -> Result<ServerArguments<'a>, Error>
     ensures asked { IfOk result (AsksFor (map string_bytes words.now)) }
     ensures refused { FailsBy (fault_of line (map string_bytes words.now)) result }

@@ -1,4 +1,4 @@
-//! What `--confirm` takes.
+//! The values of `--confirm`.
 ghost use Rattle.pad_server.specs.Confirming.{IsConfirm};
 
 use group_commit::Confirm;
@@ -6,7 +6,8 @@ use group_commit::Confirm;
 /// The most seconds that a reply waits for the standby: a day.
 pub const MAX_SECONDS: u32 = 86_400;
 
-/// What replies wait for by a word of the command line: `strict`, or a number of seconds, 1 to 86,400. None: it is neither.
+/// The condition that replies wait for, by a word of the command line: `strict`, or a number of seconds, 1 to 86,400.
+/// None: it is neither.
 pub fn confirm_of(word: &str) -> Option<Confirm>
     ensures { IsConfirm word.now result }
 {

@@ -1,4 +1,4 @@
-//! Why the server does not start, or ends early.
+//! The reason why the server does not start, or ends early.
 ghost use Rattle.std.specs.Prelude.{◌≡◌};
 ghost use Rattle.std.specs.Process.{exit_status};
 ghost use Rattle.pad_server.specs.Status.{status};
@@ -14,7 +14,7 @@ use tcp_server::ServingError;
 use thiserror::Error;
 use wire_lines::{Fault, cause_of};
 
-/// Why the server does not start, or ends before the end of its input.
+/// The reason why the server does not start, or ends before the end of its input.
 #[derive(Clone, Copy, Debug, Error)]
 pub enum ServerFailure<'a> {
     #[error("the arguments cannot be read: {0}")]
@@ -44,7 +44,7 @@ impl<'a> ServerFailure<'a> {
         }
     }
 
-    /// Why the arguments could not be read.
+    /// The reason why the arguments could not be read.
     pub fn of_arguments(cause: io::Error) -> ServerFailure<'static> {
         match cause.kind() {
             ErrorKind::OutOfMemory => ServerFailure::Fault(Fault::Memory),
@@ -52,7 +52,7 @@ impl<'a> ServerFailure<'a> {
         }
     }
 
-    /// What is wrong with the accounts file; None for another failure.
+    /// The error in the accounts file; None for another failure.
     pub fn accounts(self) -> Option<AccountsFileError<'a>> {
         match self {
             ServerFailure::Accounts(error) => Some(error),

@@ -1,11 +1,11 @@
-//! What the server serves.
+//! The source of the requests that the server serves.
 ghost use Rattle.std.specs.Prelude.{◌≡◌};
 ghost use Rattle.pad_server.specs.Modes.{mode_of, names_itself, serving};
 
 use crate::args::ServerArguments;
 use thiserror::Error;
 
-/// Where the requests come from.
+/// The source of the requests.
 #[derive(Clone, Copy)]
 pub enum ServerMode<'a> {
     /// Standard input.
@@ -23,14 +23,14 @@ pub enum ServerMode<'a> {
         address: &'a str,
         /// The path of the accounts file.
         accounts: &'a str,
-        /// The directory where the copies are kept.
+        /// The directory in which the copies are kept.
         store: &'a str,
         /// The number of the main server.
         main: u16,
     },
 }
 
-/// What is wrong with a command line that clap accepts.
+/// An error in a command line that clap accepts.
 #[derive(Clone, Copy, Debug, Error)]
 pub enum Misuse {
     #[error("either --stdin or --listen <ADDR> is needed, and not both")]
@@ -70,10 +70,10 @@ pub enum Misuse {
 }
 
 impl<'a> ServerArguments<'a> {
-    /// Returns what is served. Exactly one of `--stdin` and `--listen` has to be given: the first without `--store`,
-    /// `--idle`, `--new-replica`, `--web`, `--clients-per-address`, a standby and `--status`, the second with `--accounts`.
-    /// `--web-origin` and `--user-header` are for `--web`, `--trusted-proxy` and `--any-user` for `--user-header`, and
-    /// `--confirm` for `--standby`.
+    /// Returns the source of the requests. Exactly one of `--stdin` and `--listen` has to be given: the first without
+    /// `--store`, `--idle`, `--new-replica`, `--web`, `--clients-per-address`, a standby and `--status`, the second
+    /// with `--accounts`. `--web-origin` and `--user-header` are for `--web`, `--trusted-proxy` and `--any-user` for
+    /// `--user-header`, and `--confirm` for `--standby`.
     pub fn mode(self) -> Result<ServerMode<'a>, Misuse>
         ensures { result ≡ mode_of self.entry }
     {
@@ -114,7 +114,7 @@ impl<'a> ServerArguments<'a> {
         }
     }
 
-    // Whether pads are served at an address, or copies kept.
+    // The mode at an address: pads are served, or copies kept.
     fn serving(self, address: &'a str, accounts: &'a str) -> Result<ServerMode<'a>, Misuse>
         ensures { result ≡ serving address.entry accounts.entry self.entry }
     {
@@ -137,7 +137,7 @@ impl<'a> ServerArguments<'a> {
         }
     }
 
-    // Whether the standby or the main server would be this server itself.
+    // Returns true if the standby or the main server would be this server itself.
     fn names_itself(self) -> bool
         ensures { result ≡ names_itself self.entry }
     {

@@ -16,7 +16,7 @@ pub fn wrong_origin(origins: &str) -> Option<&str>
     None
 }
 
-// Whether a text is an origin as a browser sends it: a scheme, a host, and perhaps a port.
+// Returns true if a text is an origin as a browser sends it: a scheme, a host, and perhaps a port.
 fn is_origin(text: &str) -> bool
     ensures { result ≡ is_origin text.now }
 {
@@ -32,7 +32,7 @@ fn are_host_bytes(host: &[u8]) -> bool
     host.iter().all(|byte| is_host_byte(*byte))
 }
 
-// What follows the scheme.
+// The text after the scheme.
 fn host_of(text: &[u8]) -> Option<&[u8]>
     ensures { option_map (λ host. host.now) result ≡ host_of text.now }
 {
@@ -42,7 +42,7 @@ fn host_of(text: &[u8]) -> Option<&[u8]>
     }
 }
 
-// Whether a byte may stand in a host or a port.
+// Returns true if a byte may stand in a host or a port.
 fn is_host_byte(byte: u8) -> bool
     ensures { result ≡ is_host_byte byte }
 {

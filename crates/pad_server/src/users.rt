@@ -1,4 +1,4 @@
-//! What `--user-header` and `--trusted-proxy` take.
+//! The values of `--user-header` and `--trusted-proxy`.
 ghost use Rattle.std.specs.Prelude.{◌≡◌};
 ghost use Rattle.std.specs.List.{list_all};
 ghost use Rattle.pad_server.specs.Users.{is_field_name, is_name_byte};
@@ -8,7 +8,7 @@ use std::net::IpAddr;
 /// The most proxies that `--trusted-proxy` names.
 pub const MAX_PROXIES: usize = 16;
 
-/// What is wrong with the addresses of `--trusted-proxy`.
+/// An error in the addresses of `--trusted-proxy`.
 #[derive(Clone, Copy)]
 pub enum ProxyMistake<'a> {
     /// This is no address.
@@ -17,7 +17,7 @@ pub enum ProxyMistake<'a> {
     TooMany,
 }
 
-/// What is wrong with these addresses, which are separated by commas.
+/// The error in these addresses, which are separated by commas; None if there is none.
 pub fn proxy_mistake(proxies: &str) -> Option<ProxyMistake<'_>> {
     for (index, proxy) in proxies.split(',').enumerate() {
         let proxy = proxy.trim();
@@ -31,7 +31,7 @@ pub fn proxy_mistake(proxies: &str) -> Option<ProxyMistake<'_>> {
     None
 }
 
-/// Whether a text may be the name of a field of a request.
+/// Returns true if a text may be the name of a field of a request.
 pub fn is_field_name(name: &str) -> bool
     ensures { result ≡ is_field_name name.now }
 {
@@ -45,7 +45,7 @@ fn are_name_bytes(bytes: &[u8]) -> bool
     bytes.iter().all(|byte| is_name_byte(*byte))
 }
 
-// Whether a byte may stand in the name of a field.
+// Returns true if a byte may stand in the name of a field.
 fn is_name_byte(byte: u8) -> bool
     ensures { result ≡ is_name_byte byte }
 {

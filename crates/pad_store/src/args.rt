@@ -10,7 +10,7 @@ use clap::{Command, Error};
 use command_line::VERSION;
 use std::alloc::{AllocError, Global};
 
-/// What the words of the command line give.
+/// The arguments that the words of the command line give.
 #[derive(Clone, Copy)]
 pub struct StoreArguments<'a> {
     /// The command.
@@ -121,7 +121,7 @@ fn command<'a>(alloc: Global) -> Result<Command<'a>, AllocError>
         .arg(flag(alloc, "markdown", "Shows the revision as Markdown"))
 }
 
-/// What the words of the command line give, or what is wrong with them.
+/// Parses the words of the command line: returns their arguments, or the error in them.
 pub fn parse<'a>(alloc: Global, words: &'a [String]) -> Result<StoreArguments<'a>, Error>
     ensures asked { IfOk result (AsksFor (map string_bytes words.now)) }
     ensures refused { FailsBy (fault_of line (map string_bytes words.now)) result }

@@ -1,4 +1,4 @@
-//! What an older store has beyond a newer one: the lines that each file has after the last one that both have.
+//! The lines that an older store has beyond a newer one: those of each file after the last one that both have.
 use crate::failure::StoreFailure;
 use crate::files::{is_folder, names_of, read_file};
 use crate::inspected_pad::InspectedPad;
@@ -10,7 +10,7 @@ use std::alloc::{AllocError, Global};
 use std::io::{Eprint, Write};
 use std::rt::Runtime;
 
-/// How many pads of the older store were found to be what.
+/// The numbers of pads of the older store, by the result of their comparison.
 #[derive(Clone, Copy)]
 struct BeyondCounts {
     pads: u64,
@@ -38,7 +38,7 @@ impl BeyondCounts {
         }
     }
 
-    // Counts a pad with so many lines that the newer store lacks.
+    // Counts a pad with this number of lines that the newer store lacks.
     fn add_lines(&mut self, lines: usize) {
         self.lines = self.lines.saturating_add(lines as u64);
         if lines > 0 {
@@ -46,7 +46,7 @@ impl BeyondCounts {
         }
     }
 
-    // Whether each pad was read, and the newer store has all lines of each.
+    // Returns true if each pad was read, and the newer store has all lines of each.
     fn is_nothing(&self) -> bool {
         self.beyond == 0 && self.missing == 0 && self.apart == 0 && self.damaged == 0
     }
@@ -67,7 +67,7 @@ impl BeyondCounts {
     }
 }
 
-/// Prints what an older store, or one file of it, has beyond a newer one. Returns whether there is nothing.
+/// Prints the lines that an older store, or one file of it, has beyond a newer one. Returns true if there are none.
 pub fn beyond<'a, R: Runtime<A = Global>, W: Write>(
     rt: &R,
     old: &'a str,
@@ -84,7 +84,7 @@ pub fn beyond<'a, R: Runtime<A = Global>, W: Write>(
     Ok(counts.is_nothing())
 }
 
-// Whether a path is that of a folder.
+// Returns true if a path is that of a folder.
 fn kind_of<'a, R: Runtime<A = Global>>(rt: &R, path: &'a str) -> Result<bool, StoreFailure<'a>> {
     match is_folder(rt, path) {
         Ok(in_folder) => Ok(in_folder),
@@ -184,7 +184,7 @@ fn compare<'a, R: Runtime<A = Global>, W: Write>(
     }
 }
 
-// Reads two files, and prints what the older one has beyond the newer one.
+// Reads two files, and prints the lines that the older one has beyond the newer one.
 fn compare_files<'a, R: Runtime<A = Global>, W: Write>(
     rt: &R,
     old: &'a str,
@@ -202,7 +202,7 @@ fn compare_files<'a, R: Runtime<A = Global>, W: Write>(
     compare_with(rt, old, bytes.as_slice(), news.as_slice(), counts, out)
 }
 
-// Prints what the older file has beyond the lines of the newer one.
+// Prints the lines that the older file has beyond those of the newer one.
 fn compare_with<'a, R: Runtime<A = Global>, W: Write>(
     rt: &R,
     path: &'a str,

@@ -26,7 +26,7 @@ pub fn sum_on(line: &[u8]) -> Option<&[u8]>
     Some(&line[line.len() - SUM_AND_END..line.len() - 2])
 }
 
-/// Whether two lines have the same sum.
+/// Returns true if two lines have the same sum.
 pub fn have_one_sum(line: &[u8], other: &[u8]) -> bool
     ensures { result ≡ partings.have_one_sum line.now other.now }
 {

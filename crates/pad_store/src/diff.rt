@@ -9,7 +9,8 @@ use std::alloc::{AllocError, Global};
 /// The escape character, which begins a terminal command.
 const ESCAPE: u8 = 27;
 
-/// The text of a revision, with what was deleted and inserted up to a later one; None if that is an earlier one.
+/// The text of a revision, with the text that was deleted and inserted up to a later one; None if that is an earlier
+/// one.
 pub fn diff(
     alloc: Global,
     bytes: &[u8],
@@ -68,7 +69,7 @@ fn mark(alloc: Global, front: &str, back: &str) -> Result<Text, AllocError> {
     Text::from_str(alloc, both.as_str())
 }
 
-// The older text with what was deleted and inserted, ended by a line feed.
+// The older text with the text that was deleted and inserted, ended by a line feed.
 fn compared(
     alloc: Global,
     book: &mut InspectedPad,

@@ -1,11 +1,11 @@
-//! Why the program ends early.
+//! The reason why the program ends early.
 use crate::trouble::Trouble;
 use std::alloc::{AllocError, AllocFailed};
 use std::io::ErrorKind;
 use std::process::ExitCode;
 use std::{fmt, io};
 
-/// Why the program ends early.
+/// The reason why the program ends early.
 #[derive(Clone, Copy)]
 pub enum StoreFailure<'a> {
     Memory,
@@ -26,7 +26,7 @@ pub enum StoreFailure<'a> {
 }
 
 impl<'a> StoreFailure<'a> {
-    /// Why a file or a folder could not be read.
+    /// The reason why a file or a folder could not be read.
     pub fn of_file(path: &'a str, cause: io::Error) -> StoreFailure<'a> {
         match cause.kind() {
             ErrorKind::OutOfMemory => StoreFailure::Memory,
@@ -34,7 +34,7 @@ impl<'a> StoreFailure<'a> {
         }
     }
 
-    /// Why a file's pad could not be read.
+    /// The reason why a file's pad could not be read.
     pub fn of_pad(path: &'a str, trouble: Trouble) -> StoreFailure<'a> {
         match trouble {
             Trouble::Memory => StoreFailure::Memory,
@@ -42,7 +42,7 @@ impl<'a> StoreFailure<'a> {
         }
     }
 
-    /// Why the arguments could not be read.
+    /// The reason why the arguments could not be read.
     pub fn of_arguments(cause: io::Error) -> StoreFailure<'static> {
         match cause.kind() {
             ErrorKind::OutOfMemory => StoreFailure::Memory,
@@ -50,7 +50,7 @@ impl<'a> StoreFailure<'a> {
         }
     }
 
-    /// Whether standard output has lost its reader, which is not a failure.
+    /// Returns true if standard output has lost its reader, which is not a failure.
     pub fn is_end(self) -> bool {
         match self {
             StoreFailure::Unwritten(cause) => cause.kind() == ErrorKind::BrokenPipe,

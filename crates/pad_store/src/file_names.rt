@@ -1,4 +1,4 @@
-//! What the lines of a file say about its pad.
+//! The name and the owner of a pad, by the lines of its file.
 use crate::chain::text_on;
 use pad_model::{Name, Refusal};
 use serde_json::Value;
@@ -41,7 +41,7 @@ fn owner_on(alloc: Global, line: &[u8]) -> Result<Option<Name>, AllocError> {
     }
 }
 
-/// Whether a line has the field of an owner. It is in no operation, whose texts have their quotes escaped.
+/// Returns true if a line has the field of an owner. It is in no operation, whose texts have their quotes escaped.
 fn has_owner(line: &[u8]) -> bool {
     line.windows(8)
         .any(|eight| eight == b"\"owner\":".as_slice())

@@ -9,7 +9,7 @@ use std::{fs, io};
 /// The size in MiB from which a file is announced: replaying that much takes about a second.
 const LARGE: usize = 16;
 
-/// Whether a path is that of a folder.
+/// Returns true if a path is that of a folder.
 pub fn is_folder(files: &impl Files, path: &str) -> io::Result<bool> {
     Ok(fs::metadata(files, path)?.is_dir())
 }

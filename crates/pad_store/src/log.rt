@@ -56,7 +56,7 @@ fn put_lines<'a, R: Runtime<A = Global>, W: Write>(
     Ok(())
 }
 
-/// Prints a line for each of these lines of a file: for an operation as `log` does, and for any other line what it was.
+/// Prints a line for each of these lines of a file: for an operation as `log` does, and for any other line its kind.
 /// `before` are the lines before them.
 pub fn put_lines_behind<'a, R: Runtime<A = Global>, W: Write>(
     rt: &R,
@@ -155,7 +155,7 @@ fn words_of(
     Ok(words_of_parts(alloc, parts)?)
 }
 
-// Whether one of the parts erases.
+// Returns true if one of the parts erases.
 fn erases(parts: &[Part]) -> bool {
     for part in parts {
         if let Part::Delete(_) = part {
@@ -177,7 +177,7 @@ fn words_between(
     Ok(words(alloc, pieces.as_slice(), text.as_slice())?)
 }
 
-// What parts insert, comment or resolve.
+// The texts that parts insert or comment, and the comments that they resolve.
 fn words_of_parts(alloc: Global, parts: &[Part]) -> Result<String, AllocError> {
     let mut out = String::new(alloc);
     for part in parts {
@@ -186,7 +186,7 @@ fn words_of_parts(alloc: Global, parts: &[Part]) -> Result<String, AllocError> {
     Ok(out)
 }
 
-// What a part inserts, comments or resolves.
+// Adds the text that a part inserts or comments, or the comment that it resolves.
 fn put_part(alloc: Global, out: &mut String, part: &Part) -> Result<(), AllocError> {
     match part {
         Part::Insert(run) => put_words(alloc, out, " +", run.text.as_slice()),

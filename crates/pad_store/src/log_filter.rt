@@ -1,8 +1,8 @@
-//! Which operations the log lists.
+//! The operations that the log lists.
 ghost use Rattle.std.specs.Prelude.{◌≡◌};
 ghost use Rattle.pad_store.specs.Choices as choices;
 
-/// Which operations the log lists, and which names of revisions: those for which all holds that is given.
+/// The operations and the names of revisions that the log lists: those that meet all given conditions.
 #[derive(Clone, Copy)]
 pub struct LogFilter<'a> {
     /// The first revision.
@@ -16,15 +16,15 @@ pub struct LogFilter<'a> {
 }
 
 impl LogFilter<'_> {
-    /// Whether what an author did at a moment, which is in milliseconds since 1970, is listed. The present revision was
-    /// then the one with this number.
+    /// Returns true if an author's action at a moment, which is in milliseconds since 1970, is listed. The present
+    /// revision was then the one with this number.
     pub fn lists(self, rev: u64, author: &str, at: u64) -> bool
         ensures { result ≡ choices.lists self.entry rev author.now at }
     {
         self.is_from(rev) && self.is_by(author) && self.is_since(at) && self.is_until(at)
     }
 
-    // Whether a revision is not before the first one.
+    // Returns true if a revision is not before the first one.
     fn is_from(self, rev: u64) -> bool
         ensures { result ≡ choices.is_from self.entry.from rev }
     {
@@ -34,7 +34,7 @@ impl LogFilter<'_> {
         }
     }
 
-    // Whether an author is the one whose operations are listed.
+    // Returns true if an author is the one whose operations are listed.
     fn is_by(self, author: &str) -> bool
         ensures { result ≡ choices.is_by self.entry.by author.now }
     {
@@ -44,7 +44,7 @@ impl LogFilter<'_> {
         }
     }
 
-    // Whether a moment is not before the first one.
+    // Returns true if a moment is not before the first one.
     fn is_since(self, at: u64) -> bool
         ensures { result ≡ choices.is_since self.entry.since at }
     {
@@ -54,7 +54,7 @@ impl LogFilter<'_> {
         }
     }
 
-    // Whether a moment is not after the last one.
+    // Returns true if a moment is not after the last one.
     fn is_until(self, at: u64) -> bool
         ensures { result ≡ choices.is_until self.entry.until at }
     {

@@ -1,4 +1,4 @@
-//! What the program does, by its command line.
+//! The command that the program runs, by its command line.
 ghost use Rattle.std.specs.Prelude.{◌≡◌};
 ghost use Rattle.pad_store.specs.Modes.{compare, compare_stores, done_with, export_or_find, has_revision, list, misuse_of, mode_of, needless, show, with_deed};
 ghost use Rattle.pad_store.specs.Modes as modes;
@@ -55,14 +55,14 @@ pub enum StoreMode<'a> {
         path: &'a str,
         sum: &'a str,
     },
-    /// Prints what an older store, or a file of one, has beyond a newer one.
+    /// Prints the lines that an older store, or a file of one, has beyond a newer one.
     Beyond {
         old: &'a str,
         new: &'a str,
     },
 }
 
-/// What is wrong with a command line that clap accepts.
+/// An error in a command line that clap accepts.
 #[derive(Clone, Copy, Debug, Error)]
 pub enum StoreMisuse {
     #[error("the command is check, show, log, diff, export or beyond")]
@@ -185,7 +185,7 @@ impl<'a> StoreArguments<'a> {
         }
     }
 
-    // What is wrong with the options of a command, if anything.
+    // The error in the options of a command, if any.
     fn misuse(self, deed: Deed) -> Option<StoreMisuse>
         ensures { result ≡ misuse_of deed self.entry }
     {
@@ -199,7 +199,7 @@ impl<'a> StoreArguments<'a> {
         }
     }
 
-    // Whether a revision is given, by its number or by a moment.
+    // Returns true if a revision is given, by its number or by a moment.
     fn has_revision(self) -> bool
         ensures { result ≡ has_revision self.entry }
     {

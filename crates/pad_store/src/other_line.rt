@@ -11,8 +11,8 @@ use std::alloc::{AllocError, Global};
 use store_format::{StoreLine, read_entry};
 use store_records::Record;
 
-/// The output line for a line that makes no revision: `-`, the time, who, and what it was. Without a time or an author,
-/// `-` stands there.
+/// The output line for a line that makes no revision: `-`, the time, the author, and its kind. Without a time or an
+/// author, `-` stands there.
 pub fn other_line(alloc: Global, line: &[u8]) -> Result<String, AllocError> {
     let Some(text) = text_on(line) else {
         return unknown(alloc);

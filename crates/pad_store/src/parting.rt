@@ -1,4 +1,4 @@
-//! Where two files of one pad part.
+//! The place at which two files of one pad part.
 ghost use Rattle.std.specs.Prelude.{◌≡◌, IfOk, map};
 ghost use Rattle.std.specs.List.{position};
 ghost use Rattle.store_format.specs.Lines.{is_feed};

@@ -34,7 +34,7 @@ pub fn quoted(alloc: Global, text: &[char]) -> Result<String, AllocError> {
     Value::String(text).to_string(alloc)
 }
 
-/// The older text with what was deleted and inserted, each between its marks.
+/// The older text with the text that was deleted and inserted, each between its marks.
 pub fn marked(
     alloc: Global,
     marks: &Marks,
@@ -51,7 +51,7 @@ pub fn marked(
     Ok(shown)
 }
 
-// Adds what a piece shows, and returns what is left of the older text.
+// Adds the text that a piece shows, and returns the rest of the older text.
 fn add_piece<'a>(
     shown: &mut Text,
     marks: &Marks,

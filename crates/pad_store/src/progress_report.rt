@@ -23,7 +23,7 @@ impl ProgressReport {
         }
     }
 
-    // Whether a second has passed. If so, the next one begins.
+    // Returns true if a second has passed. If so, the next one begins.
     fn is_due<C: Clock>(&mut self, clock: &C) -> bool {
         let (Some(last), Ok(now)) = (self.last, Instant::now(clock)) else {
             return false;

@@ -1,6 +1,6 @@
-//! Which revision of a pad is asked for.
+//! The revision of a pad that is asked for.
 
-/// Which revision of a pad is asked for.
+/// The revision of a pad that is asked for.
 #[derive(Clone, Copy)]
 pub enum RevisionChoice {
     /// The present one.

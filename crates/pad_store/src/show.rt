@@ -7,7 +7,7 @@ use crate::revision_choice::RevisionChoice;
 use crate::trouble::Trouble;
 use std::alloc::Global;
 
-/// What `show` prints: the text of the revision that is asked for, of the pad that the bytes of its file lead to.
+/// The output of `show`: the text of the revision that is asked for, of the pad that the bytes of its file lead to.
 pub fn show(alloc: Global, bytes: &[u8], asked: RevisionChoice) -> Result<String, Trouble>
     ensures shown { IfOk result (λ text. Shows bytes.now asked (string_bytes text)) }
     ensures fault { IfErr result (λ trouble. IsFault bytes.now trouble) }

@@ -1,4 +1,4 @@
-//! Why the bytes of a file could not be read.
+//! The reason why the bytes of a file could not be read.
 ghost use Rattle.std.specs.Prelude.{◌≡◌};
 ghost use Rattle.pad_store.specs.Reading.{trouble_after, trouble_of};
 
@@ -7,7 +7,7 @@ use std::alloc::{AllocError, AllocFailed};
 use store_format::Damage;
 use thiserror::Error;
 
-/// Why a revision of a file's pad could not be read.
+/// The reason why a revision of a file's pad could not be read.
 #[derive(Clone, Copy, Debug, Error)]
 pub enum Trouble {
     #[error("900 Memory")]

@@ -8,7 +8,7 @@ use pad_model::{AuthorRun, Items, Text};
 use std::alloc::{AllocError, Global};
 use std::fmt::Write;
 
-/// What is shown beside the text of a revision, and how.
+/// The parts that are shown besides the text of a revision, and their form.
 #[derive(Clone, Copy)]
 pub struct View {
     pub authors: bool,
@@ -17,7 +17,7 @@ pub struct View {
 }
 
 impl View {
-    /// Whether only the text is shown.
+    /// Returns true if only the text is shown.
     pub fn is_plain(self) -> bool {
         !self.authors && !self.comments && !self.markdown
     }
@@ -100,7 +100,7 @@ fn put_text(alloc: Global, out: &mut String, text: &Text) -> Result<(), AllocErr
     Ok(())
 }
 
-// Adds who wrote what: a line for each author run.
+// Adds the authors of the text: a line for each author run.
 fn put_runs(
     alloc: Global,
     out: &mut String,

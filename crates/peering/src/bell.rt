@@ -1,4 +1,4 @@
-//! How a waiting thread is woken, and what it learns.
+//! The bell that wakes a waiting thread, and the changes that the thread learns of.
 use cell_set::CellSet;
 use crossbeam_channel::{Receiver, Sender};
 use std::alloc::{AllocError, Global};
@@ -49,7 +49,7 @@ impl Bell {
         self.ring(rt);
     }
 
-    /// Whether the bell was rung for the last time.
+    /// Returns true if the bell was rung for the last time.
     pub fn is_last(&self) -> bool {
         self.is_last.load(Ordering::SeqCst)
     }

@@ -16,7 +16,7 @@ use wire_lines::{Fault, Std, Watched};
 /// Seconds after which a round visits all cells again, and not only those that have changed.
 const WHOLE: u64 = 60;
 
-/// Why a round failed.
+/// The reason why a round failed.
 #[derive(Clone, Copy)]
 pub enum BrokenRound {
     /// There was no connection.
@@ -78,7 +78,7 @@ impl<'a, R: Wait + Clock> PeerConnection<'a, R> {
         }
     }
 
-    /// Whether the next round has to visit all cells: it is the first, or the last such round was long ago.
+    /// Returns true if the next round has to visit all cells: it is the first, or the last such round was long ago.
     pub fn needs_whole(&self, clock: &R) -> bool {
         match self.whole_at {
             Some(at) => match at.elapsed(clock) {
@@ -109,7 +109,7 @@ impl<'a, R: Wait + Clock> PeerConnection<'a, R> {
     }
 }
 
-// Why a connection broke, with the system's error.
+// Returns the reason why a connection broke, with the system's error.
 fn why<R: Wait + Clock>(
     link: PeerLines<PeerReader, PeerWriter<'_, R>>,
     fault: Fault,

@@ -25,8 +25,8 @@ const LOOK: u64 = 1;
 
 const LONG_LOOK: u64 = 60;
 
-/// What the threads that exchange with peers share: the bell of each, and how many have ended. The gate of the pads
-/// calls `note` and `ring`; the thread that started the others calls `finish`.
+/// The state shared by the threads that exchange with peers: the bell of each, and the number of those that have ended.
+/// The gate of the pads calls `note` and `ring`; the thread that started the others calls `finish`.
 #[derive(Drop)]
 pub struct Exchange {
     bells: Vec<Bell>,
@@ -99,7 +99,7 @@ impl Exchange {
     }
 }
 
-// Whether `began` is longer ago than a server waits for a peer.
+// Returns true if `began` is longer ago than a server waits for a peer.
 fn is_past<C: Clock>(clock: &C, began: Option<Instant>) -> bool {
     match began.map(|began| began.elapsed(clock)) {
         Some(Ok(passed)) => passed.as_secs() >= PATIENCE,
@@ -117,7 +117,7 @@ pub struct Skipped {
 }
 
 impl Skipped {
-    // Whether the peer with this number is one of them.
+    // Returns true if the peer with this number is one of them.
     fn has(self, number: u16) -> bool {
         number == self.own || self.standby == Some(number)
     }
@@ -215,7 +215,7 @@ where
     exchange.leave(rt);
 }
 
-// How long to wait, in seconds.
+// Returns the time to wait, in seconds.
 fn look_of<R>(links: &Vec<PeerLink<'_, R>>) -> u64
 where
     R: Net<Listener = TcpListener, Stream = TcpStream> + Clock + Wait + Eprint,

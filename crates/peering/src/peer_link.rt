@@ -15,10 +15,11 @@ use std::sync::Wait;
 use std::time::{Clock, Duration, Instant};
 use wire_lines::{Fault, cause_of};
 
-/// How long this server waits for a peer, in seconds: to connect, for each reply, and for each line to be accepted.
+/// The time for which this server waits for a peer, in seconds: to connect, for each reply, and for each line to be
+/// accepted.
 pub const PATIENCE: u64 = 30;
 
-/// How long one attempt to connect takes, in seconds. No further one is made once the server has stopped.
+/// The time that one attempt to connect takes, in seconds. No further one is made once the server has stopped.
 const TURN: u64 = 3;
 
 /// The pause after a failed round, in seconds. After each further one it is twice as long.
@@ -78,7 +79,7 @@ where
         })
     }
 
-    /// Whether the last round failed.
+    /// Returns true if the last round failed.
     pub fn has_failed(&self) -> bool {
         self.pause > 0
     }
@@ -88,8 +89,8 @@ where
         self.moved.add_all(moved);
     }
 
-    /// Whether a round is due: after a failed one, once its pause is over; otherwise if there is no connection, a pad
-    /// has changed, or all cells are to be visited again.
+    /// Returns true if a round is due: after a failed one, once its pause is over; otherwise if there is no connection,
+    /// a pad has changed, or all cells are to be visited again.
     pub fn is_due(&self, clock: &R) -> bool {
         if let Some(at) = self.failed_at {
             return match at.elapsed(clock) {

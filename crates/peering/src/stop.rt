@@ -1,4 +1,4 @@
-//! How exchanges with peers are broken off.
+//! Breaks off exchanges with peers.
 ghost use Rattle.std.specs.Prelude.{◌≡◌, IfOk, length};
 
 use log::warn;
@@ -34,8 +34,8 @@ impl Stop {
     }
 }
 
-/// What an exchange with a peer depends on: the store, which has to be synced before a line is written to the peer, and
-/// whether exchanges were broken off.
+/// The state that an exchange with a peer depends on: the store, which has to be synced before a line is written to the
+/// peer, and whether exchanges were broken off.
 #[derive(Clone, Copy)]
 pub struct Guard<'a> {
     /// The keeper of the store; None if there is no store.
@@ -71,7 +71,7 @@ impl Guard<'_> {
         }
     }
 
-    /// Whether the store has failed, so that nothing more may be told to anybody.
+    /// Returns true if the store has failed, so that nothing more may be reported to anybody.
     pub fn has_failed(&self) -> bool {
         self.keeper.is_some_and(|keeper| keeper.has_failed())
     }
@@ -86,7 +86,7 @@ impl Guard<'_> {
         }
     }
 
-    // Whether the store has failed, or exchanges were broken off.
+    // Returns true if the store has failed, or exchanges were broken off.
     pub(crate) fn has_stopped(&self) -> bool {
         self.has_failed() || self.stop.is_over.load(Ordering::SeqCst)
     }

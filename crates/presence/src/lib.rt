@@ -1,4 +1,4 @@
-//! Who is present on a pad: visits, from a join to its end, with their carets.
+//! Presence on a pad: visits, from a join to its end, with their carets.
 //!
 //! It depends on `pad_model` and `indexmap`. The crates above decide whether a session may join.
 #![tactic(auto)]

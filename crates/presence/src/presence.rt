@@ -1,4 +1,4 @@
-//! Who is present on a pad.
+//! The visits that are present on a pad.
 ghost use Rattle.std.specs.Prelude.{◌≡◌, ◌+◌, [], None, IfOk, IfErr, IsTrue, MatchResult, unwrap_or};
 ghost use Rattle.pad_model.specs.declared.refusal.Refusal.{Refusal};
 ghost use Rattle.presence.specs.Presence.{is_joined_by, join_refusal, joined, left, spent_refusal, with_caret, OnVisit, AreNumbered};
@@ -27,7 +27,7 @@ pub struct Visit {
     pub caret: Option<Stamp>,
 }
 
-/// What is kept of a visit beside its number.
+/// The fields of a visit beside its number.
 #[derive(Drop)]
 pub struct Visitor {
     author: Name,
@@ -122,7 +122,7 @@ impl PresenceBook {
         Ok(())
     }
 
-    /// Whether a visit is present and belongs to this author.
+    /// Returns true if a visit is present and belongs to this author.
     pub fn holds(&self, visit: u64, author: &str) -> bool
         ensures { result ≡ is_joined_by visit author.now self.now.present }
     {

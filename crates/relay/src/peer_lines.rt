@@ -9,7 +9,7 @@ use wire_lines::{Fault, FoundLine, LineBuffer, Sink, Source, write_all};
 
 /// Lines to a peer, and lines from it.
 pub trait LineExchange {
-    /// What goes over the connection, and how it failed.
+    /// The traffic over the connection, and how it failed.
     ghost wire: { Self → Wire };
 
     /// The line that was heard last.

@@ -19,7 +19,7 @@ pub struct Talk {
 }
 
 impl Talk {
-    /// Whether the peer can read something; `in_v1` tells whether version 1 can express it.
+    /// Returns true if the peer can read something; `in_v1` tells whether version 1 can express it.
     pub fn is_readable(&self, in_v1: bool) -> bool
         ensures { result ≡ round.is_readable self.now.version in_v1 }
     {

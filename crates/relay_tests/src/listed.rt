@@ -49,7 +49,7 @@ const NOTHING: Relayed = Relayed {
     unsaid: 0,
 };
 
-// What a server with twenty pads and a letter on `p17` wrote after the greeting, and how each visit ended.
+// The output of a server with twenty pads and a letter on `p17` after the greeting, and the end of each visit.
 #[derive(Drop)]
 struct Visited {
     output: Output,

@@ -42,8 +42,8 @@ const READINGS: [&str; 3] = [
     r#"{"do":"comments","pad":"p"}"#,
 ];
 
-// What both show after the round. Of two runs at one place with equal counters, the one of the greater replica comes
-// first.
+// The text that both show after the round. Of two runs at one place with equal counters, the one of the greater replica
+// comes first.
 const SHOWN: &str = concat!(
     r#"{"now":3,"ok":true,"rev":3,"text":"twoone"}"#,
     "\n",

@@ -82,7 +82,8 @@ fn calls_of(seats: &[Seat]) -> u64 {
     calls
 }
 
-// Whether the seats close their pad with the answers and the exchanged operations, as an audit of its log finds.
+// Returns true if the seats close their pad with the answers and the exchanged operations, as an audit of its log
+// finds.
 pub fn is_closed(alloc: Global, cells: Vec<SharedPad<BlockSeq>>, side: Side) -> bool {
     let mut cells = cells;
     let Side {

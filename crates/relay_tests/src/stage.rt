@@ -29,7 +29,7 @@ pub fn text_of(bytes: &[u8]) -> &str {
     }
 }
 
-/// What a round wrote, and how it ended.
+/// The output of a round, and its end.
 #[derive(Drop)]
 pub struct Talked {
     pub output: Output,

@@ -345,8 +345,8 @@ fn end_alike<R: Threads + Wait + Sync + Net<Stream = TcpStream, Listener = TcpLi
     Ok(here.as_str() == there.as_str())
 }
 
-// Whether both servers show the same; and for each server, the number of its edits that were answered, the number of
-// operations it took from the other, and whether it closes with its seats and records.
+// The result of a run: true if both servers show the same; and for each server, the number of its edits that were
+// answered, the number of operations it took from the other, and true if it closes with its seats and records.
 #[derive(Clone, Copy, Debug)]
 struct StressResult {
     alike: Result<bool, Refusal>,

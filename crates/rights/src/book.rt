@@ -14,7 +14,7 @@ use std::marker::Model;
 /// The most names that may have a right of their own, the owner included.
 pub const MAX_GRANTS: u64 = 256;
 
-/// Who has a right on the pad, and which.
+/// The names that have a right on the pad, each with its right.
 #[derive(Clone, Debug, PartialEq, Drop)]
 pub struct Grant {
     pub grantee: Grantee,
@@ -64,7 +64,7 @@ impl RightsBook {
         self.owner.as_str()
     }
 
-    /// Whether an author has a right, or one that includes it.
+    /// Returns true if an author has a right, or one that includes it.
     pub fn may(&self, name: &Name, right: Right) -> bool
         ensures { result ≡ may self.now name.now right }
     {
@@ -149,14 +149,14 @@ impl RightsBook {
         Ok(())
     }
 
-    /// Whether the name is the owner's.
+    /// Returns true if the name is the owner's.
     pub fn is_owner(&self, name: &Name) -> bool
         ensures { result ≡ bytes_eq name.now self.now.owner }
     {
         *name == self.owner
     }
 
-    /// Whether the name is new and the book is full.
+    /// Returns true if the name is new and the book is full.
     fn is_full_for(&self, name: &Name) -> bool
         ensures { result ≡ (not (is_some (granted self.now.grants name.now))
             && nat_le MAX_GRANTS (length self.now.grants + 1)) }

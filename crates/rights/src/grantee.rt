@@ -26,7 +26,7 @@ impl Clone for Grantee {
 }
 
 impl Grantee {
-    /// Whether a grantee can be given a right, or lose it (None): an author needs a well-formed name, and everyone
+    /// Returns true if a grantee can be given a right, or lose it (None): an author needs a well-formed name, and everyone
     /// cannot own a pad.
     pub fn can_have(&self, right: Option<Right>) -> bool
         ensures { result ≡ can_have self.now right }

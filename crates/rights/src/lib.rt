@@ -1,4 +1,4 @@
-//! Who may do what with a pad: its owner may do everything, others what they or everyone were granted.
+//! The rights on a pad: its owner may do everything, others what they or everyone were granted.
 //!
 //! It depends on `pad_model`, and on `indexmap`, which keeps grants in the order in which they were first granted. It
 //! does not know about sessions: the crates above decide who is asking.

@@ -1,7 +1,7 @@
 ghost use Rattle.std.specs.Prelude.{◌≡◌};
 ghost use Rattle.rights.specs.Rights.{includes, rank};
 
-/// What an author may do with a pad. Each right includes those before it.
+/// A right of an author on a pad. Each right includes those before it.
 #[derive(Clone, Copy, Debug, PartialEq, Eq)]
 pub enum Right {
     /// Join, and read texts, revisions and comments.
@@ -15,7 +15,7 @@ pub enum Right {
 }
 
 impl Right {
-    /// Whether an author with this right has the other one too.
+    /// Returns true if an author with this right has the other one too.
     pub fn includes(self, other: Right) -> bool
         ensures { result ≡ includes self other }
     {

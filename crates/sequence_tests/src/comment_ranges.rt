@@ -135,7 +135,7 @@ fn on_hello() -> Result<Draft, Refusal> {
     })
 }
 
-/// The comment as it is listed at each revision.
+/// The comment, as listed at each revision.
 const LISTED: &[(u64, &[SeenComment])] = &[
     (0, &[]),
     (1, &[(0, 5, false)]),

@@ -3,7 +3,7 @@ use block_seq::{BlockSeq, PlainSeq};
 use pad_model::{CellView, Refusal, Sequence, Stamp};
 use std::alloc::Global;
 
-/// Whether two cells are the same.
+/// Returns true if two cells are the same.
 fn is_same_cell(one: &CellView<'_>, other: &CellView<'_>) -> bool {
     one.stamp == other.stamp
         && one.parent == other.parent
@@ -13,7 +13,7 @@ fn is_same_cell(one: &CellView<'_>, other: &CellView<'_>) -> bool {
         && one.died == other.died
 }
 
-/// Whether both have the same cell at a place, or both none.
+/// Returns true if both have the same cell at a place, or both none.
 fn have_same_cell(rows: &BlockSeq, plain: &PlainSeq, place: u64) -> bool {
     match (rows.cell_at(place), plain.cell_at(place)) {
         (Some(one), Some(other)) => is_same_cell(&one, &other),
@@ -22,20 +22,20 @@ fn have_same_cell(rows: &BlockSeq, plain: &PlainSeq, place: u64) -> bool {
     }
 }
 
-/// Whether both have the same cells.
+/// Returns true if both have the same cells.
 pub fn have_same_cells(rows: &BlockSeq, plain: &PlainSeq) -> bool {
     let count = plain.cell_count();
     rows.cell_count() == count && (0..=count).all(|place| have_same_cell(rows, plain, place))
 }
 
-/// Whether both give the same place to a stamp at a revision.
+/// Returns true if both give the same place to a stamp at a revision.
 fn place_the_same(rows: &BlockSeq, plain: &PlainSeq, rev: u64, stamp: Stamp) -> bool {
     rows.before(stamp, rev) == plain.before(stamp, rev)
         && rows.through(stamp, rev) == plain.through(stamp, rev)
         && rows.has(stamp) == plain.has(stamp)
 }
 
-/// Whether both give the same places to all characters at a revision.
+/// Returns true if both give the same places to all characters at a revision.
 fn place_all_the_same(rows: &BlockSeq, plain: &PlainSeq, rev: u64) -> bool {
     for place in 0..plain.cell_count() {
         match plain.cell_at(place) {
@@ -46,7 +46,7 @@ fn place_all_the_same(rows: &BlockSeq, plain: &PlainSeq, rev: u64) -> bool {
     true
 }
 
-/// Whether both have the same spans in each third of a revision.
+/// Returns true if both have the same spans in each third of a revision.
 fn have_same_spans(
     alloc: Global,
     rows: &BlockSeq,
@@ -66,7 +66,7 @@ fn have_same_spans(
     Ok(true)
 }
 
-/// Whether both report the same changes from one revision to another, and back.
+/// Returns true if both report the same changes from one revision to another, and back.
 pub fn change_the_same(
     alloc: Global,
     rows: &BlockSeq,
@@ -80,7 +80,7 @@ pub fn change_the_same(
     )
 }
 
-/// Whether both show the same at a revision: its text, authors and spans.
+/// Returns true if both show the same at a revision: its text, authors and spans.
 pub fn show_the_same(
     alloc: Global,
     rows: &BlockSeq,
@@ -94,7 +94,7 @@ pub fn show_the_same(
     )
 }
 
-/// Whether both report the same for a revision: what it shows, its stamps and its places.
+/// Returns true if both report the same for a revision: its text, authors and spans, its stamps and its places.
 pub fn tell_the_same(
     alloc: Global,
     rows: &BlockSeq,

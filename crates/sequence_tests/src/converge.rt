@@ -101,8 +101,8 @@ impl OperationShares {
     }
 }
 
-/// Whether two replicas have the same character at a place. Revisions are not compared, since each replica counts its
-/// own.
+/// Returns true if two replicas have the same character at a place. Revisions are not compared, since each replica
+/// counts its own.
 fn agree(one: &Replica, other: &Replica, place: u64) -> bool {
     let Some(a) = one.sequence().cell_at(place) else {
         return false;

@@ -1,4 +1,4 @@
-//! Deletions on the plain sequence: what each of them hides, beside insertions and at older revisions.
+//! Deletions on the plain sequence: the characters that each of them hides, beside insertions and at older revisions.
 use crate::replica::PartSketch::{Erased, Typed};
 use crate::replica::{PartSketch, Replica};
 use crate::sequences::{ABCD, HELLO, TakenOperations, has_count, site_of};

@@ -17,7 +17,7 @@ fn labels_of(alloc: Global, rows: &BlockSeq) -> Result<Vec<u64>, Refusal> {
     Ok(labels)
 }
 
-/// Whether each label is greater than the one before it.
+/// Returns true if each label is greater than the one before it.
 fn rise(labels: &[u64]) -> bool {
     labels
         .iter()
@@ -105,7 +105,7 @@ fn type_behind_the_first(
     Ok(if is_taken { Some(changes) } else { None })
 }
 
-/// Whether the text is "a", a hundred times "x", and "b", and all of its characters are found.
+/// Returns true if the text is "a", a hundred times "x", and "b", and all of its characters are found.
 fn has_hundred(alloc: Global, rows: &BlockSeq, rev: u64) -> Result<bool, Refusal> {
     let text = rows.text_at(alloc, rev)?;
     let typed = text.as_slice().iter().skip(1).take(100);

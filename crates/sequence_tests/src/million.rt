@@ -51,8 +51,8 @@ impl Long {
         made
     }
 
-    /// Whether the character at a place of a revision is the one that the order of the runs gives: each run comes
-    /// before the earlier ones.
+    /// Returns true if the character at a place of a revision is the one that the order of the runs gives: each run
+    /// comes before the earlier ones.
     fn stands_at(&self, rev: u64, place: u64) -> bool {
         let (before, offset) = (place / MAX_TEXT, place % MAX_TEXT);
         let run = rev.saturating_sub(before).saturating_sub(1);

@@ -137,7 +137,8 @@ impl SequencePair {
         Ok(())
     }
 
-    /// The sequence of blocks tells of a revision, by its blocks, what it told from the runs that it kept then.
+    /// The sequence of blocks reports the same runs for a revision, by its blocks, as it reported from the runs that it
+    /// kept then.
     pub fn runs_stayed(
         &self,
         rt: &impl Abort,
@@ -207,8 +208,8 @@ impl SequencePair {
         }
     }
 
-    /// Both say the same now and at an older revision: of counts, texts, author runs, a place and a stamp that may be missing,
-    /// and of what changed between two revisions, from either to the other.
+    /// Both report the same now and at an older revision: of counts, texts, author runs, a place and a stamp that may
+    /// be missing, and of the changes between two revisions, from either to the other.
     pub fn agree(&self, rt: &impl Abort, alloc: Global, dice: &mut Dice) -> Result<(), Refusal> {
         let old = dice.roll(self.rev.saturating_add(1));
         let other = dice.roll(self.rev.saturating_add(1));

@@ -1,4 +1,4 @@
-//! What the plain sequence reports of its characters: numbers, stamps, places, runs and spans.
+//! Reports of the plain sequence on its characters: numbers, stamps, places, runs and spans.
 use crate::replica::PartSketch::Typed;
 use crate::replica::{Named, Replica, stamp_of};
 use crate::sequences::{HELLO, named, site_of};
@@ -63,7 +63,7 @@ fn readers(rt: HostRuntime) -> Result<(), Fail> {
     Ok(())
 }
 
-/// Whether author runs have these replicas and lengths.
+/// Returns true if author runs have these replicas and lengths.
 fn are_runs(runs: &[AuthorRun], want: &[(u16, u64)]) -> bool {
     for (run, want) in runs.iter().zip(want) {
         if run.author.origin != want.0 || run.len != want.1 {
@@ -89,7 +89,7 @@ fn has_runs(
     Ok(())
 }
 
-/// Whether spans have these first stamps and lengths.
+/// Returns true if spans have these first stamps and lengths.
 fn are_spans(spans: &[Span], want: &[(Named, u64)]) -> bool {
     for (span, want) in spans.iter().zip(want) {
         if named(span.first) != want.0 || span.len != want.1 {

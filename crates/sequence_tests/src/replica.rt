@@ -124,7 +124,7 @@ impl Replica {
     }
 }
 
-/// Whether two sequences have the same cells. They are compared only if the revision is a multiple of `every`.
+/// Returns true if two sequences have the same cells. They are compared only if the revision is a multiple of `every`.
 fn are_alike(rows: &BlockSeq, plain: &PlainSeq, rev: u64, every: u64) -> bool {
     match rev.checked_rem(every) {
         Some(0) | None => have_same_cells(rows, plain),

@@ -1,4 +1,4 @@
-//! Operations on the plain sequence: where runs go, and what several parts do together.
+//! Operations on the plain sequence: the places of runs, and the effect of several parts together.
 use crate::replica::PartSketch::{Erased, Typed};
 use crate::replica::{Named, PartSketch, Replica};
 use pad_model::{Refusal, Sequence, Stamp};

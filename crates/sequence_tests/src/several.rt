@@ -1,4 +1,5 @@
-//! Operations of several parts on the sequence of blocks beside the plain one, and what both tell of older revisions.
+//! Operations of several parts on the sequence of blocks beside the plain one, and the reports of both on older
+//! revisions.
 use crate::compared::{show_the_same, tell_the_same};
 use crate::converge::{OperationShares, erased, typed};
 use crate::replica::Replica;

@@ -168,7 +168,7 @@ fn erased(alloc: Global, pair: &SequencePair, dice: &mut Dice) -> Result<Part, R
     Ok(Part::Delete(plain.spans_at(alloc, rev, at, count)?))
 }
 
-/// What each of three replicas does next, from the same text: three of five times it types, else it erases.
+/// The next action of each of three replicas, from the same text: three of five times it types, else it erases.
 fn round(alloc: Global, pair: &SequencePair, dice: &mut Dice) -> Result<Vec<Part>, Refusal> {
     let place = dice.roll(pair.plain().len_at(pair.rev()).saturating_add(1));
     let mut parts = Vec::new(alloc);
@@ -198,7 +198,7 @@ fn play_all(
     Ok(shares)
 }
 
-/// Makes the parts of a round, by replica. Both sequences agree after each, also on what the text before it showed.
+/// Makes the parts of a round, by replica. Both sequences agree after each, also on the text before it.
 fn are_taken(
     rt: &impl Abort,
     alloc: Global,

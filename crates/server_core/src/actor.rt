@@ -108,7 +108,7 @@ impl Actor {
     }
 }
 
-/// Whether a scan, a list or an end is under way.
+/// Returns true if a scan, a list or an end is under way.
 fn is_busy(task: &Task) -> bool
     ensures { result ≡ actor_spec.is_busy task.now }
 {

@@ -1,4 +1,4 @@
-//! How a request is asked: one on the session itself is answered at once, one on a pad begins a scan.
+//! Begins a request: one on the session itself is answered at once, one on a pad begins a scan.
 ghost use Rattle.std.specs.Prelude.{◌≡◌, ◌⊎◌, []};
 ghost use Rattle.pad_model.specs.declared.refusal.Refusal.TheVariants as refusal;
 ghost use Rattle.server_core.specs.Actor.{actor_of};
@@ -85,7 +85,7 @@ fn begin_list(alloc: Global, task: &mut Task) -> Moved
     Moved::Scanning
 }
 
-/// Where the scan for a pad begins: at the pad's cell if the session has joined it, and otherwise at the first cell.
+/// Returns the first cell of the scan for a pad: the pad's cell if the session has joined it, or else the first of all.
 pub fn first_cell(session: &Session, pad: &Name) -> u32
     ensures { result ≡ actor.first_cell pad.now session.now.rooms }
 {

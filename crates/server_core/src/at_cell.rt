@@ -1,4 +1,4 @@
-//! What a request does at one cell. Memory for a room is allocated before the pad is asked.
+//! A request at one cell. Memory for a room is allocated before the pad is asked.
 ghost use Rattle.std.specs.Prelude.{◌≡◌, ◌≤◌, IsTrue, IfErr, IfOk};
 ghost use Rattle.pad_model.specs.Checked.{is_name};
 ghost use Rattle.pad_core.specs.declared.act.Act.TheVariants as Act;

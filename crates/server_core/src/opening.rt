@@ -1,4 +1,4 @@
-//! How a session becomes an author's or a peer's, and what a request requires of its session.
+//! Makes a session an author's or a peer's, and checks the session that a request requires.
 ghost use Rattle.std.specs.Prelude.{◌≡◌, MatchResult};
 ghost use Rattle.pad_model.specs.Answers.{Answers};
 ghost use Rattle.server_core.specs.Opening.{is_nobody, is_of_author, is_unsayable};
@@ -148,7 +148,7 @@ pub fn act_refusal(who: &Who, pad: &Name, act: &Act) -> Option<Refusal>
     }
 }
 
-/// Whether a session is unauthenticated.
+/// Returns true if a session is unauthenticated.
 pub fn is_nobody(who: &Who) -> bool
     ensures { result ≡ is_nobody who.now }
 {
@@ -161,7 +161,7 @@ fn is_of_author(who: &Who) -> bool
     matches!(who, Who::Author(_))
 }
 
-/// Whether this version of the wire cannot express a server's number.
+/// Returns true if this version of the wire cannot express a server's number.
 fn is_unsayable(replica: u16, version: Version) -> bool
     ensures { result ≡ is_unsayable replica version }
 {

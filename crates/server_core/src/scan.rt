@@ -87,7 +87,7 @@ fn answer_at<S: Sequence>(
     request_at(alloc, &mut cells[index], place, session, request)
 }
 
-/// Whether the cell had another name and another cell follows it.
+/// Returns true if the cell had another name and another cell follows it.
 fn goes_on(answer: &Result<Option<Reply>, Refusal>, place: u32, count: usize) -> bool
     ensures { result ≡ steps.goes_on answer.now place count }
 {

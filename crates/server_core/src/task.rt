@@ -1,10 +1,10 @@
-//! What an actor is doing between two steps.
+//! The task of an actor between two steps.
 ghost use Rattle.std.specs.Prelude.{◌≡◌};
 
 use pad_core::{Listed, Request};
 use pad_model::Items;
 
-/// What is under way.
+/// The task that is under way.
 #[derive(Drop)]
 pub enum Task {
     /// Nothing.

@@ -1,9 +1,9 @@
-//! What the threads that serve clients count.
+//! The counts of the threads that serve clients.
 use crate::counter::Counter;
 use crate::refusals::{RefusalCounts, code_of_reply};
 use std::alloc::{AllocError, Global};
 
-/// What the threads that serve clients count.
+/// The counts of the threads that serve clients.
 #[derive(Drop)]
 pub struct ClientCounts {
     /// Connections that browsers opened.
@@ -42,7 +42,7 @@ impl ClientCounts {
         }
     }
 
-    /// Counts the visits of a client, which had so many before.
+    /// Counts the visits of a client: it had `before`, and has `now`.
     pub fn note_visits(&self, before: usize, now: usize) {
         if now > before {
             self.visits.add((now - before) as u64);

@@ -20,12 +20,12 @@ impl Counter {
         self.add(1);
     }
 
-    /// Counts so many more. It wraps after 2^64.
+    /// Adds `more`. It wraps after 2^64.
     pub fn add(&self, more: u64) {
         self.number.fetch_add(more, Ordering::SeqCst);
     }
 
-    /// Counts so many fewer. It wraps below 0.
+    /// Subtracts `fewer`. It wraps below 0.
     pub fn take(&self, fewer: u64) {
         self.number.fetch_sub(fewer, Ordering::SeqCst);
     }

@@ -5,7 +5,7 @@ ghost use Rattle.server_counts.specs.Families.{help_of, kind_of, kind_text, name
 use std::fmt;
 use std::fmt::{Display, Formatter};
 
-/// What the samples of a family are.
+/// The kind of the samples of a family.
 #[derive(Clone, Copy)]
 pub enum FamilyKind {
     /// It only grows, until the server ends.
@@ -84,7 +84,7 @@ impl Family {
         }
     }
 
-    /// What it says, in one line without a backslash.
+    /// Returns its help text: one line without a backslash.
     pub fn help(self) -> &'static str
         ensures { result.now ≡ help_of self }
     {
@@ -122,7 +122,7 @@ impl Family {
         }
     }
 
-    /// What its samples are.
+    /// Returns the kind of its samples.
     pub fn kind(self) -> FamilyKind
         ensures { result ≡ kind_of self }
     {

@@ -1,4 +1,4 @@
-//! How long something took, in buckets.
+//! Times in buckets.
 ghost use Rattle.std.specs.Prelude.{◌≡◌};
 ghost use Rattle.server_counts.specs.Times.{count_of, place_of};
 
@@ -13,21 +13,21 @@ const BOUNDS: [&'static str; 12] = [
 /// The times of something that threads do, counted in buckets.
 #[derive(Drop)]
 pub struct Histogram {
-    // One for each bound, and one for what took longer.
+    // One for each bound, and one for longer times.
     counts: Vec<Counter>,
     micros: Counter,
 }
 
-/// How often something took at most so long.
+/// The number of times up to a bound.
 #[derive(Clone, Copy)]
 pub struct Bucket {
     /// The bound in seconds, as a text; `+Inf` where there is none.
     pub bound: &'static str,
-    /// How often it took at most that long.
+    /// The number of times up to the bound.
     pub upto: u64,
 }
 
-/// What a histogram had counted when it was looked at.
+/// The counts of a histogram when it was read.
 #[derive(Drop)]
 pub struct TimeCounts {
     /// With ascending bounds. Each bucket counts those before it too, so the last one counts all.
@@ -57,7 +57,7 @@ impl Histogram {
         self.micros.add(micros);
     }
 
-    /// What was counted until now. The buckets are read one after the other.
+    /// Reads the present counts. The buckets are read one after the other.
     pub fn read(&self, alloc: Global) -> Result<TimeCounts, AllocError> {
         let micros = self.micros.read();
         let mut buckets = Vec::with_capacity(alloc, self.counts.len())?;
@@ -72,7 +72,7 @@ impl Histogram {
 }
 
 impl TimeCounts {
-    /// How many times there are.
+    /// Returns the number of times.
     pub fn count(&self) -> u64
         ensures { result ≡ count_of self.now.buckets.items }
     {

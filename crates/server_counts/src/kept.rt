@@ -4,18 +4,19 @@ ghost use Rattle.server_counts.specs.Kept.{kept_text, whole_text, word_of};
 
 use std::alloc::{AllocError, Global};
 
-/// What is told of a standby.
+/// The reported state of a standby.
 #[derive(Clone, Copy)]
 pub struct KeptStandby<'a> {
-    /// What `--confirm` was given, or `never`.
+    /// The value of `--confirm`, or `never`.
     pub confirm: &'a str,
-    /// Whether it has everything that is synced here.
+    /// True if it has everything that is synced here.
     pub has_all: bool,
-    /// How many notes it lacks, as far as is known.
+    /// The number of notes it lacks, as far as is known.
     pub lag: u64,
 }
 
-/// On how many machines what is answered now is kept, and how far the standby is: one line of JSON, with keys in byte order.
+/// Writes the number of machines that keep what is answered now, and the state of the standby: one line of JSON, with
+/// keys in byte order.
 pub fn kept_text(
     alloc: Global,
     machines: u32,

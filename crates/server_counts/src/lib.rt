@@ -1,7 +1,7 @@
-//! What a running server counts, and how it is told to operators: the text of `/metrics` and `/kept`, and the requests and
-//! responses of the address at which these are asked.
+//! The counts of a running server, and their report to operators: the text of `/metrics` and `/kept`, and the requests
+//! and responses of the address that serves them.
 //!
-//! It depends only on std. Threads count in atomics; whoever tells of them takes a snapshot first.
+//! It depends only on std. Threads count in atomics; a report takes a snapshot of them first.
 #![tactic(auto)]
 
 mod client_counts;

@@ -8,7 +8,7 @@ use crate::refusals::CodeCount;
 use crate::samples::{put_build, put_codes, put_one, put_times};
 use std::alloc::{AllocError, Global};
 
-/// Which build of the program this is.
+/// The build of the program.
 #[derive(Clone, Copy)]
 pub struct Build<'a> {
     /// Its version, such as `0.1.0`.
@@ -17,7 +17,7 @@ pub struct Build<'a> {
     pub proved: &'a str,
 }
 
-/// Numbers of the clients, and of what they asked for.
+/// Numbers of the clients, and of their requests.
 #[derive(Drop)]
 pub struct ClientNumbers {
     /// Connected now.
@@ -44,7 +44,7 @@ pub struct StoreNumbers {
     pub synced: u64,
     /// The times of syncs.
     pub syncs: TimeCounts,
-    /// On how many machines what is answered now is kept.
+    /// The number of machines that keep what is answered now.
     pub machines: u64,
     /// None: no standby has a copy.
     pub standby: Option<StandbyNumbers>,
@@ -57,7 +57,7 @@ pub struct StandbyNumbers {
     pub confirms: u64,
     /// The notes that it has.
     pub confirmed: u64,
-    /// What is synced here, and it lacks.
+    /// The lag: the notes and bytes that are synced here and that it lacks.
     pub lag_notes: u64,
     pub lag_bytes: u64,
     pub lag_seconds: u64,
@@ -65,7 +65,7 @@ pub struct StandbyNumbers {
     pub silence_seconds: u64,
 }
 
-/// What is told of a server: a snapshot of its counts.
+/// The reported numbers of a server: a snapshot of its counts.
 #[derive(Drop)]
 pub struct Numbers<'a> {
     pub build: Build<'a>,
@@ -88,7 +88,7 @@ pub fn metrics_text(alloc: Global, numbers: &Numbers<'_>) -> Result<String, Allo
     Ok(text)
 }
 
-// Appends what concerns the process.
+// Appends the numbers of the process.
 fn put_process(text: &mut String, numbers: &Numbers<'_>) -> Result<(), AllocError>
     ensures { OnOk result (string_bytes text.new ≡ string_bytes text.old ++ process_text numbers.now) }
 {
@@ -197,7 +197,7 @@ fn put_standby(text: &mut String, numbers: StandbyNumbers) -> Result<(), AllocEr
     put_lag(text, numbers)
 }
 
-// Appends what the standby confirms.
+// Appends the numbers that the standby confirms.
 fn put_confirms(text: &mut String, numbers: StandbyNumbers) -> Result<(), AllocError>
     ensures { OnOk result (string_bytes text.new ≡ string_bytes text.old ++ confirms_text numbers) }
 {
@@ -205,7 +205,7 @@ fn put_confirms(text: &mut String, numbers: StandbyNumbers) -> Result<(), AllocE
     put_one(text, Family::Confirmed, numbers.confirmed)
 }
 
-// Appends how far behind the standby is.
+// Appends the lag of the standby.
 fn put_lag(text: &mut String, numbers: StandbyNumbers) -> Result<(), AllocError>
     ensures { OnOk result (string_bytes text.new ≡ string_bytes text.old ++ lag_text numbers) }
 {

@@ -8,16 +8,16 @@ use std::alloc::{AllocError, Global};
 /// The numbers of refusals are smaller.
 const CODES: u16 = 1_000;
 
-/// How a reply begins that is a refusal. Its number follows.
+/// The beginning of a reply that is a refusal. Its number follows.
 const BEGINNING: &[u8] = b"{\"code\":";
 
-/// How often each refusal was answered.
+/// The count of each refusal that was answered.
 #[derive(Drop)]
 pub struct RefusalCounts {
     by_code: Vec<Counter>,
 }
 
-/// How often a refusal was answered.
+/// The count of a refusal that was answered.
 #[derive(Clone, Copy)]
 pub struct CodeCount {
     pub code: u16,
@@ -41,7 +41,7 @@ impl RefusalCounts {
         }
     }
 
-    /// The numbers that were answered, in ascending order, each with how often.
+    /// The numbers that were answered, in ascending order, each with its count.
     pub fn list(&self, alloc: Global) -> Result<Vec<CodeCount>, AllocError> {
         let mut listed = Vec::new(alloc);
         for code in 0..CODES {

@@ -2,18 +2,18 @@
 ghost use Rattle.std.specs.Prelude.{◌≡◌, option_map};
 ghost use Rattle.server_counts.specs.Requests.{asked_by, page_of, unversioned};
 
-/// What can be asked for.
+/// The pages that can be requested.
 #[derive(Clone, Copy)]
 pub enum StatusPage {
-    /// `/healthz`: whether the server serves.
+    /// `/healthz`: the health of the server.
     Health,
-    /// `/kept`: on how many machines what is answered is kept.
+    /// `/kept`: the number of machines that keep what is answered.
     Kept,
     /// `/metrics`: all numbers.
     Metrics,
 }
 
-/// What a request asks for.
+/// A request, by the page that it asks for.
 #[derive(Clone, Copy)]
 pub enum StatusRequest {
     /// `GET` or `HEAD` of a page.
@@ -26,7 +26,7 @@ pub enum StatusRequest {
     NoRequest,
 }
 
-/// What a request asks for, by its first line without the line's end, such as `GET /healthz HTTP/1.1`.
+/// Returns the request of a first line without the line's end, such as `GET /healthz HTTP/1.1`.
 pub fn asked_by(line: &[u8]) -> StatusRequest
     ensures { result ≡ asked_by line.now }
 {
@@ -77,7 +77,7 @@ pub fn first_line(bytes: &[u8]) -> &[u8] {
     line.strip_suffix(b"\r").unwrap_or(line)
 }
 
-/// Whether a request's head is whole: an empty line ends it.
+/// Returns true if a request's head is whole: an empty line ends it.
 pub fn has_whole_head(bytes: &[u8]) -> bool {
     bytes.windows(4).any(|four| four == b"\r\n\r\n".as_slice())
         || bytes.windows(2).any(|two| two == b"\n\n".as_slice())

@@ -45,7 +45,7 @@ pub fn response(
     Ok(text)
 }
 
-// The head of a response whose content has so many bytes.
+// The head of a response whose content has `length` bytes.
 fn head(
     alloc: Global,
     status: Status,

@@ -5,7 +5,7 @@ use std::process::Abort;
 use std::test::Fail;
 use test_server::{ANN, PEER, TestServer, is_refusal, ops_in};
 
-/// The most bytes of an answer: 1 MiB of operations, and what is around them.
+/// The most bytes of an answer: 1 MiB of operations, and the bytes around them.
 const MOST: usize = 1_048_576 + 64;
 
 /// The fields of a pull, and how many operations it returns, of 300 with one character each.

@@ -2,7 +2,7 @@
 use dice::Dice;
 use std::alloc::{AllocError, Global};
 
-/// What an author chooses to do.
+/// The action that an author chooses.
 #[derive(Clone, Copy, PartialEq)]
 pub enum Choice {
     Type,

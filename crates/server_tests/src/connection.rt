@@ -1,4 +1,5 @@
-//! What no contract covers: worked lines as a client sees them, and devices that transfer bytes in pieces and fail.
+//! Cases that no contract covers: worked lines as a client sees them, and devices that transfer bytes in pieces and
+//! fail.
 ghost use Rattle.std.specs.Prelude.{◌≤◌};
 
 use crate::shown::text_of;
@@ -45,10 +46,10 @@ fn solo(alloc: Global) -> Result<Alone<BlockSeq>, Fail> {
     Ok(pads)
 }
 
-// How a connection ends.
+// The end of a connection.
 type Ended = Result<Served, Fault>;
 
-// Serves a connection to a fresh server, and returns how it ends.
+// Serves a connection to a fresh server, and returns its end.
 pub fn serve<R: Source, W: Sink>(
     alloc: Global,
     reader: &mut R,
@@ -116,7 +117,7 @@ fn joined(alloc: Global, answers: bool) -> Result<String, Fail> {
     Ok(text)
 }
 
-// How a connection is tried: where it is cut, or the size of the pieces.
+// A trial of a connection: the place where it is cut, or the size of the pieces.
 type Try = (&'static str, usize);
 
 // Asserts that a connection ended so, and wrote exactly this.
@@ -199,7 +200,7 @@ fn a_write_that_fails(rt: HostRuntime) -> Result<(), Fail> {
     Ok(())
 }
 
-// How a second connection of a session with `create` ends after a writer that failed, and what it writes.
+// The end of a second connection of a session with `create` after a writer that failed, and its output.
 fn after_a_fault(alloc: Global, taken: usize) -> Result<(Ended, Output), Fail> {
     let mut pads = solo(alloc)?;
     let mut reader = Input::new(CREATE.as_bytes());
@@ -304,7 +305,7 @@ fn each_read_fails_once(rt: HostRuntime) -> Result<(), Fail> {
     Ok(())
 }
 
-// What two successive connections with a request to create `p` write.
+// The output of two successive connections with a request to create `p`.
 fn written_by_two(alloc: Global, pads: &mut Alone<BlockSeq>) -> Result<Output, Fail> {
     let mut writer = Output::new(alloc);
     for _ in 0..2 {
@@ -314,7 +315,7 @@ fn written_by_two(alloc: Global, pads: &mut Alone<BlockSeq>) -> Result<Output, F
     Ok(writer)
 }
 
-// Whether this is exactly these two lines.
+// Returns true if this is exactly these two lines.
 pub fn are_both(written: &[u8], first: &str, second: &str) -> bool {
     written.strip_prefix(first.as_bytes()) == Some(second.as_bytes())
 }

@@ -1,5 +1,5 @@
 //! A text as the list of all its letters, kept by the textbook's scan: a letter goes after the one that it was typed
-//! after, past each newer one. It has no revisions: what is erased stays erased.
+//! after, past each newer one. It has no revisions: an erased letter stays erased.
 use pad_model::{Op, OpName, Part, Refusal, Run, Span, Stamp};
 use std::alloc::Global;
 

@@ -14,7 +14,8 @@ use test_server::{
 
 const EVENTS: u64 = 2_000;
 
-/// How many events of each kind made an operation, how many were refused, and how many characters were erased.
+/// The number of events of each kind that made an operation, of those that were refused, and of characters that were
+/// erased.
 #[derive(Clone, Copy, Debug, Default)]
 struct EventShares {
     typed: u64,
@@ -149,7 +150,7 @@ fn vector(alloc: Global, rig: &mut TestServer) -> Result<String, Refusal> {
     Ok(String::from_str(alloc, seen)?)
 }
 
-/// Pushes to a server what it lacks of another one. Returns whether there was anything.
+/// Pushes to a server the operations that it lacks of another one. Returns true if there were any.
 fn hear_some(alloc: Global, rig: &mut TestServer, other: &mut TestServer) -> Result<bool, Refusal> {
     let seen = vector(alloc, rig)?;
     let ops = lacking(alloc, other, seen.as_str())?;

@@ -42,7 +42,7 @@ impl Source for WaitingClient<'_> {
     }
 }
 
-// What is sent to the client.
+// The bytes sent to the client, and the count of its replies.
 #[derive(Drop)]
 struct Sent<'a> {
     output: Output,

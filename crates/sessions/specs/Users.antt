@@ -17,7 +17,7 @@ is_given name a = list_any (has_name name) a.authors || is_some (display_of name
 abbrev pub well_formed : List ℕ → Option (List ℕ)
 well_formed name = if is_name name then Some name else None
 
--- the author with the name that is made from a user, or why there is none: an author can have the name, and it is nobody's
+-- the author with the name that is made from a user, or the reason for none: an author can have it, and nobody else has it
 abbrev pub made_author : List ℕ → Accounts → Result (List ℕ) Stranger
 made_author name a =
     if not a.any_user then Err NoLine

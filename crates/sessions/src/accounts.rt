@@ -1,4 +1,4 @@
-//! Who may log in.
+//! The accounts that may log in.
 ghost use Rattle.std.specs.Prelude.{◌≡◌, Ok, IfOk, IfErr, option_copied, option_map};
 ghost use Rattle.std.specs.List.{list_any};
 ghost use Rattle.sessions.specs.Accounts.{has_name, has_number, is_full, with_author, with_line, with_people, outcome};
@@ -20,7 +20,7 @@ use std::marker::Model;
 /// The most accounts that there can be, authors and peers together.
 pub const MAX_ACCOUNTS: u64 = 1_000;
 
-/// Why an accounts file could not be read.
+/// The reason an accounts file could not be read.
 #[derive(Clone, Copy, Debug, PartialEq, Eq)]
 pub enum AccountsError {
     /// 500: a line is invalid. `line` is the number of the first such line, from 1, and `mistake` is what is wrong with
@@ -111,21 +111,21 @@ impl Accounts {
         Accounts { any_user, ..self }
     }
 
-    /// Whether any user of a proxy is an author.
+    /// Returns true if any user of a proxy is an author.
     pub(crate) fn takes_any_user(&self) -> bool
         ensures { result ≡ self.now.any_user }
     {
         self.any_user
     }
 
-    /// Whether an author has this token, or its hash.
+    /// Returns true if the author has this token or its hash.
     pub fn author(&self, name: &str, token: &str) -> bool
         ensures { result ≡ is_author name.now token.now self.now }
     {
         self.authors.iter().any(|account| account.name.is(name) && account.secret.opens(token))
     }
 
-    /// Whether the peer with this number has this token. No peer has a number above `MAX_REPLICA`.
+    /// Returns true if the peer with this number has this token. No peer has a number above `MAX_REPLICA`.
     pub fn peer(&self, number: u64, token: &str) -> bool
         ensures { result ≡ is_peer number token.now self.now }
     {

@@ -1,4 +1,4 @@
-//! Who may log in, who a session belongs to, and which pads it has joined.
+//! The accounts that may log in, the owner of a session, and the pads that it has joined.
 //!
 //! It depends on `pad_model`, on `indexmap` for persons, and on `sha2` and `hex` for hashes of tokens. The crates above decide whether a session may join a pad, and which cell a
 //! pad has.

@@ -27,7 +27,7 @@ pub const MAX_ID: u64 = 255;
 /// The most characters of a display name.
 pub const MAX_DISPLAY: u64 = 60;
 
-/// What a line says.
+/// The meaning of a line.
 pub enum AccountLine<'a> {
     Skip,
     Author {
@@ -83,7 +83,7 @@ fn without_return(line: &[u8]) -> &[u8]
     }
 }
 
-/// What a line says, or what is wrong with it.
+/// Reads a line; returns its meaning or its mistake.
 pub fn read_line(line: &[u8]) -> Result<AccountLine<'_>, Mistake>
     ensures { said_or_mistake result ≡ meaning line.now }
 {
@@ -95,7 +95,7 @@ pub fn read_line(line: &[u8]) -> Result<AccountLine<'_>, Mistake>
     }
 }
 
-/// Whether the line has a space at its start, at its end or after another space.
+/// Returns true if the line has a space at its start, at its end or after another space.
 fn has_empty_word(line: &[u8]) -> bool
     ensures { result ≡ list_any is_empty (words line.now) }
 {
@@ -110,7 +110,7 @@ fn has_empty_word(line: &[u8]) -> bool
     false
 }
 
-/// What the words of a line say: the first one tells the form of the others.
+/// Reads the words of a line: the first one determines the form of the others.
 fn read_words(line: &[u8]) -> Result<AccountLine<'_>, Mistake>
     ensures { said_or_mistake result ≡ said_by (words line.now) }
 {
@@ -195,7 +195,7 @@ fn person_line(rest: Option<&[u8]>) -> Result<AccountLine<'_>, Mistake>
     person_of(name, id, display)
 }
 
-/// What the name, the ID and the display name of a person say.
+/// Checks the name, the ID and the display name of a person; returns its line.
 fn person_of<'a>(
     name: &'a [u8],
     id: &'a [u8],

@@ -1,4 +1,4 @@
-//! What can be wrong with a line of an accounts file.
+//! The mistakes that a line of an accounts file can have.
 
 /// The first mistake in a line. An author's line is `author NAME TOKEN` or `hash NAME SHA256`, a peer's is
 /// `peer NUMBER TOKEN HOST:PORT`, a person's is `person NAME ID DISPLAY NAME`.

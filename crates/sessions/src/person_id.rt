@@ -11,7 +11,7 @@ use std::alloc::{AllocError, Global};
 use std::hash::{Hash, Hasher};
 use std::marker::Model;
 
-/// What a proxy sends for a person, which contracts see as its bytes.
+/// The ID that a proxy sends for a person. Contracts see it as its bytes.
 #[derive(Drop)]
 pub struct PersonId {
     bytes: Vec<u8>,

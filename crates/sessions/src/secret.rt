@@ -1,4 +1,4 @@
-//! What an author proves itself by: a token, or only the hash of one.
+//! The secret of an author: a token, or only its hash.
 ghost use Rattle.std.specs.Prelude.{◌≡◌};
 ghost use Rattle.sessions.specs.Secrets.{hash_of, opens};
 
@@ -8,7 +8,7 @@ use sha2::{Digest, Sha256};
 /// The digits of a hash.
 pub const HASH_DIGITS: usize = 64;
 
-/// What an author proves itself by.
+/// The secret by which an author proves its identity.
 #[derive(Drop)]
 pub enum Secret {
     /// The token.
@@ -18,7 +18,7 @@ pub enum Secret {
 }
 
 impl Secret {
-    /// Whether this is the token, or the token has this hash. `Word::is` says what its time reveals.
+    /// Returns true if this is the token, or the token has this hash. `Word::is` says what its time reveals.
     pub fn opens(&self, token: &str) -> bool
         ensures { result ≡ opens token.now self.now }
     {

@@ -69,14 +69,14 @@ impl Session {
         self.rooms.iter().find(|room| room.pad.is(pad))
     }
 
-    /// How many rooms it is in.
+    /// The number of rooms that the session is in.
     pub fn room_count(&self) -> usize
         ensures { result ≡ length self.now.rooms }
     {
         self.rooms.len()
     }
 
-    /// Whether it is in a room.
+    /// Returns true if the session is in a room.
     pub fn has_rooms(&self) -> bool
         ensures { IsTrue result ↔ (self.now.rooms ≢ []) }
     {

@@ -6,7 +6,7 @@ ghost use Rattle.sessions.specs.UserNames.{bytes_in, byte_behind, digit_of, is_p
 use std::alloc::{AllocError, Global};
 use std::marker::Model;
 
-/// How far an escape is, while the letters of a name are read.
+/// The state of an escape while the letters of a name are read.
 #[derive(Clone, Copy, Debug, PartialEq, Eq)]
 pub enum Escape {
     /// No escape is open.
@@ -50,7 +50,7 @@ fn push_letters(letters: &mut Vec<u8>, byte: u8) -> Result<(), AllocError>
     }
 }
 
-// Whether a byte stands for itself.
+// Returns true if a byte stands for itself.
 fn is_plain(byte: u8) -> bool
     ensures { result ≡ is_plain byte }
 {

@@ -1,4 +1,4 @@
-//! Which author a user of a proxy is, by the accounts file, and what is shown of one who has no line.
+//! The author that a user of a proxy is, by the accounts file, and the text shown for one who has no line.
 ghost use Rattle.std.specs.Prelude.{◌≡◌, true, IfOk};
 ghost use Rattle.pad_model.specs.Checked.{is_name};
 ghost use Rattle.sessions.specs.Users.{author_or_stranger, is_given, made_author, shown_for, shown_user, well_formed};
@@ -11,7 +11,7 @@ use crate::word::Word;
 use pad_model::Name;
 use std::alloc::{AllocError, Global};
 
-/// Why a user of a proxy is no author.
+/// The reason a user of a proxy is not an author.
 #[derive(Debug, Drop)]
 pub enum Stranger {
     /// No person has it as its ID.
@@ -59,14 +59,14 @@ impl Accounts {
         }
     }
 
-    // Whether the accounts file gives a name to somebody.
+    // Returns true if the accounts file gives this name to somebody.
     fn gives(&self, name: &Name) -> bool
         ensures { result ≡ is_given name.now self.now }
     {
         self.has_author(name.as_str()) || self.display_of(name).is_some()
     }
 
-    /// What is shown for a name: the display name of the person with it, or the user from whom it is made.
+    /// The text shown for a name: the display name of the person with it, or the user from whom it is made.
     pub fn shown_for(&self, alloc: Global, name: &Name) -> Result<Option<Word>, AllocError>
         ensures { IfOk result (λ shown. shown ≡ shown_for name.now self.now) }
     {

@@ -43,8 +43,8 @@ impl Word {
         self.text.as_str()
     }
 
-    /// Whether this is the token with exactly this text. If the lengths are equal, it counts the bytes that differ. So
-    /// it looks at every byte, and its steps do not reveal where a guess first differs. They do reveal whether the
+    /// Returns true if the token has exactly this text. If the lengths are equal, it counts the bytes that differ. So
+    /// it reads every byte, and its steps do not reveal where a guess first differs. They do reveal whether the
     /// length is right, and nothing is promised about the time of a step.
     pub fn is(&self, text: &str) -> bool
         ensures { result ≡ bytes_eq self.now text.now }
@@ -52,7 +52,7 @@ impl Word {
         self.is_bytes(text.as_bytes())
     }
 
-    /// Whether this is the word with exactly these bytes, compared in the same way.
+    /// Returns true if the word has exactly these bytes. They are compared in the same way.
     pub fn is_bytes(&self, bytes: &[u8]) -> bool
         ensures { result ≡ bytes_eq self.now bytes.now }
     {

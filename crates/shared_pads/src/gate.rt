@@ -29,13 +29,14 @@ pub struct Answered<'a> {
 
 /// Callbacks on the course of connections.
 pub trait Gate {
-    /// Whether it reads the operations that a request delivered.
+    /// True if it reads the operations that a request delivered.
     ghost reads: { Self → Bool };
 
-    /// It was told of a request at a cell, and of its answer. Only `answered` says so.
+    /// A request at a cell and its answer were reported to it. Only `answered` says so.
     ghost told: { Self → ℕ → Request → seats.Answer → Type 0 };
 
-    /// It was told of a reply to a connection, and whether this reports a delivered operation. Only `before_reply` says so.
+    /// A reply to a connection was announced to it, true if the reply reports a delivered operation. Only
+    /// `before_reply` says so.
     ghost announced: { Self → ℕ → Bool → Type 0 };
 
     /// A request was answered at a cell. Its pad is lent, so its lock is held, and the calls for a cell come in the order
@@ -49,12 +50,12 @@ pub trait Gate {
         0
     }
 
-    /// Whether it reads the operations that a request delivered. Otherwise it gets only their number.
+    /// Returns true if it reads the operations that a request delivered. Otherwise it gets only their number.
     fn reads_operations(&self) -> bool
         ensures { result ≡ reads self.now };
 
-    /// Whether what a request leaves can be kept. If not, a request that may leave something is refused before its
-    /// step: with 901, or with 900 if memory is missing.
+    /// Checks that everything a request leaves can be kept. If not, a request that may leave something is refused
+    /// before its step: with 901, or with 900 if memory is missing.
     #[tactic(auto, using(crate::specs::Gates::let_pass))]
     fn keeps(&self, _alloc: Global, request: &Request) -> Result<(), Refusal>
         ensures refused { IfErr result (λ e. (e ≡ Refusal.StoreFull) ⊎ (e ≡ Refusal.Memory)) }
@@ -70,7 +71,7 @@ pub trait Gate {
     /// A step was made at a cell, whose lock is still held.
     fn inside(&self, cell: u32);
 
-    /// A reply is about to be written; whether it reports a delivered operation.
+    /// A reply is about to be written; `delivered` is true if it reports a delivered operation.
     fn before_reply(&self, connection: u64, delivered: bool)
         ensures { announced self.now connection delivered };
 

@@ -1,4 +1,4 @@
-//! Pads that many threads share: each behind a lock of its own, with what was counted of each seat at it.
+//! Pads that many threads share: each behind a lock of its own, with the tally of each seat at it.
 //!
 //! It depends on the server machine: a call does under the lock what a step of the machine does at one cell.
 #![tactic(auto)]

@@ -1,4 +1,4 @@
-//! What the lock of a shared pad protects.
+//! The state that the lock of a shared pad protects.
 ghost use Rattle.std.specs.Prelude.{◌≡◌, ◌⊎◌, ◌↔◌, ◌≤◌, ◌-◌, drop, length, IsTrue, is_some, IsSome, IfOk, IfErr, IfSome, MatchResult, OnOk, OnErr, Err, None};
 ghost use Rattle.std.specs.List.{AllByRecursion};
 ghost use Rattle.server_core.specs.Rooms.{IsAsked};
@@ -18,8 +18,8 @@ use sessions::{Room, Session};
 use std::alloc::Global;
 use std::marker::Model;
 
-/// A pad, the revision that it had when it came under its lock, and what was counted of each seat. It has room for all
-/// seats that it may make.
+/// A pad, the revision that it had when it came under its lock, and the tally of each seat. It has room for all seats
+/// that it may make.
 #[derive(Drop)]
 pub struct LockedPad<S: Sequence> {
     pad: Pad<S>,
@@ -141,7 +141,7 @@ impl<S: Sequence> LockedPad<S> {
         self.pad.listing(alloc, who)
     }
 
-    /// What all seats have done, if these are the seats that were made, at this cell.
+    /// Returns the sums of all seats, if these are the seats that were made, at this cell.
     pub fn sum(&self, cell: u32, seats: &[Seat]) -> Option<Sums>
         ensures sums { IfSome result (λ sums. IsClosed cell self.now seats.now sums) }
         ensures standing { IfSome result (λ _. AllByRecursion
@@ -161,7 +161,7 @@ impl<S: Sequence> LockedPad<S> {
         Some(sums)
     }
 
-    /// Whether each seat is exactly as it is known here, and of this cell.
+    /// Returns true if each seat is exactly the one that is known here, and of this cell.
     fn has_all(&self, cell: u32, seats: &[Seat]) -> bool
         ensures { IsTrue result ↔ AllByRecursion (IsOf cell self.now) seats.now }
     {
@@ -220,7 +220,7 @@ impl<S: Sequence> LockedPad<S> {
         self.pad.since(alloc, revision)
     }
 
-    /// Whether a seat is the one that is known here, and one more call can be counted.
+    /// Returns true if a seat is the one that is known here, and one more call can be counted.
     fn knows(&self, seat: &Seat) -> bool
         ensures { IsTrue result ↔ IsKnown self.now seat.now }
     {

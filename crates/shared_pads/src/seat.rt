@@ -16,7 +16,7 @@ pub struct LastEdit {
     pub rev: u64,
 }
 
-/// What was counted of the calls of one seat.
+/// The counts of the calls of one seat.
 #[derive(Clone, Copy, PartialEq, Eq)]
 pub struct Tally {
     /// The calls that were made.
@@ -39,7 +39,7 @@ impl Tally {
         }
     }
 
-    /// Whether it equals the other.
+    /// Returns true if it equals the other.
     pub fn is_same(self, other: Tally) -> bool
         ensures { IsTrue result ↔ (self ≡ other) }
     {
@@ -88,7 +88,7 @@ impl Seat {
         self.cell
     }
 
-    /// What was counted of its calls.
+    /// Returns the counts of its calls.
     pub fn tally(&self) -> Tally
         ensures { result ≡ self.now.tally }
     {
@@ -105,14 +105,14 @@ fn last_after(edit: Option<LastEdit>, before: Option<LastEdit>) -> Option<LastEd
     }
 }
 
-/// What an act does to the operations of a pad.
+/// The effect of an act on the operations of a pad.
 #[derive(Clone, Copy)]
 pub enum Effect {
     /// It makes one.
     Makes,
     /// It takes one of another server.
     Takes,
-    /// It leaves them as they are.
+    /// It leaves them unchanged.
     Keeps,
 }
 

@@ -15,7 +15,7 @@ use std::alloc::Global;
 use std::sync::{Mutex, MutexGuard, Wait};
 use std::thread::yield_now;
 
-/// How many times a thread tries a lock and yields before it sleeps until the lock is free. A step takes a few
+/// The number of times a thread tries a lock and yields before it sleeps until the lock is free. A step takes a few
 /// microseconds, less than putting a thread to sleep and waking it.
 const LOOKS: u32 = 64;
 
@@ -47,7 +47,7 @@ impl<S: Sequence> SharedPad<S> {
         self.cell
     }
 
-    /// Whether a seat is for this cell.
+    /// Returns true if a seat is for this cell.
     pub fn owns(&self, seat: &Seat) -> bool
         ensures { IsTrue result ↔ (seat.now.cell ≡ self.now.cell) }
     {

@@ -1,4 +1,4 @@
-//! What several seats have done together.
+//! The sums of the counts of several seats.
 ghost use Rattle.std.specs.Prelude.{◌≡◌, ◌⊎◌, ◌<◌, ◌==◌, IfSome, IfNone, sum_by};
 ghost use Rattle.std.specs.List.{list_any};
 ghost use Rattle.shared_pads.specs.Seats as seats_spec;
@@ -12,7 +12,7 @@ pub struct Sums {
     pub calls: u64,
 }
 
-/// What seats have done together, if it can be counted.
+/// Returns the sums of the seats, if they can be counted.
 pub fn sums_of(seats: &[Seat]) -> Option<Sums>
     ensures sums { IfSome result (λ sums. (sums.operations
         ≡ sum_by (λ seat. seat.tally.operations) seats.now)
@@ -35,7 +35,7 @@ pub fn sums_of(seats: &[Seat]) -> Option<Sums>
     }
 }
 
-/// Whether no two seats have one number.
+/// Returns true if no two seats have the same number.
 pub fn are_apart(seats: &[Seat]) -> bool
     ensures { result ≡ seats_spec.are_apart seats.now }
 {

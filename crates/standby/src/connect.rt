@@ -10,7 +10,8 @@ use std::net::{Net, TcpListener, TcpStream, ToSocketAddrs};
 use std::time::Duration;
 use wire_lines::{Std, Watched};
 
-/// How long a main server waits for its standby, in seconds: to connect, for each answer, and for each round to be taken.
+/// The time for which a main server waits for its standby, in seconds: to connect, for each answer, and for each round
+/// to be taken.
 const PATIENCE: u64 = 10;
 
 /// A link to a standby over a socket.

@@ -10,7 +10,7 @@ use sessions::Word;
 use std::alloc::Global;
 use wire_lines::Fault;
 
-/// How far the copy of a pad's file is.
+/// The place that the copy of a pad's file has reached.
 #[derive(Debug, Drop)]
 pub struct CopyPlace {
     pub pad: Name,
@@ -20,7 +20,7 @@ pub struct CopyPlace {
     pub sum: Word,
 }
 
-/// What is heard from whoever keeps copies.
+/// An answer of whoever keeps copies.
 #[derive(Debug, Drop)]
 pub enum CopiesAnswer {
     /// Everything up to a mark is kept, as whoever keeps the copies has said.
@@ -36,10 +36,10 @@ pub trait Copies {
     /// The bytes of the round so far.
     ghost round: { Self → List ℕ };
 
-    /// What was written to whoever keeps the copies, where it is known.
+    /// The bytes that were written to whoever keeps the copies, where they are known.
     ghost written: { Self → Option (List ℕ) };
 
-    /// How far each copy is, for those that have anything. None: whoever is asked keeps no copies.
+    /// Returns the place of each copy, for those that have anything. None: whoever is asked keeps no copies.
     fn begin(&mut self, alloc: Global) -> Result<Option<Vec<CopyPlace>>, Fault>;
 
     /// Adds bytes of a pad's file to the round. They stand there from byte `from` on, and are whole lines.

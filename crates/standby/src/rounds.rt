@@ -17,7 +17,7 @@ const ROUND: u64 = 1_048_576;
 /// The seconds after which a round is made although nothing has grown: so each side finds out whether the other answers.
 const BEAT: u64 = 1;
 
-/// Why no further round is made over a connection.
+/// The reason why no further round is made over a connection.
 #[derive(Debug, Drop)]
 pub enum Broken {
     /// The connection broke, or the other side did not answer as a standby does.
@@ -54,15 +54,15 @@ impl From<AllocError> for Broken {
     }
 }
 
-/// How far the copies of all files are, over one connection.
+/// The places that the copies of all files have reached, over one connection.
 #[derive(Drop)]
 pub struct Rounds<F> {
     files: F,
-    // How many bytes of the file at each cell are in its copy.
+    // The number of bytes of the file at each cell that are in its copy.
     copied: Vec<u64>,
-    // Whether the file at each cell may have more.
+    // True for each cell whose file may have more.
     is_due: Vec<bool>,
-    // How many notes the copies have.
+    // The number of notes that the copies have.
     confirmed: u64,
     is_first: bool,
 }
@@ -168,7 +168,7 @@ impl<F: SyncedFiles> Rounds<F> {
         } else {
             Duration::from_secs(BEAT)
         };
-        // What is kept now is in the files that have grown until now.
+        // Everything that is kept now is in the files that have grown until now.
         let Some(kept) = self.files.follow(rt, self.confirmed, most) else {
             return Err(Broken::StoreFailed);
         };
@@ -192,7 +192,7 @@ impl<F: SyncedFiles> Rounds<F> {
         Ok(self.files.hear(rt, &heard, true))
     }
 
-    /// Whether the copies once had everything that was stored here.
+    /// Returns true if the copies once had everything that was stored here.
     pub fn has_caught_up(&self) -> bool {
         !self.is_first
     }
@@ -264,7 +264,7 @@ impl<F: SyncedFiles> Rounds<F> {
         Ok(count)
     }
 
-    // How many bytes all copies have.
+    // Returns the number of bytes that all copies have.
     fn copied_bytes(&self) -> u64 {
         let mut bytes = 0u64;
         for copied in &self.copied {
@@ -273,7 +273,7 @@ impl<F: SyncedFiles> Rounds<F> {
         bytes
     }
 
-    // How far the copy of the file at a cell is.
+    // Sets the number of bytes of the file at a cell that are in its copy.
     fn set_copied(&mut self, cell: usize, copied: u64)
         ensures { self.new.copied.items ≡ set self.old.copied.items cell copied }
     {
@@ -282,7 +282,7 @@ impl<F: SyncedFiles> Rounds<F> {
         }
     }
 
-    // Whether the copy of the file at a cell may lack something.
+    // Sets whether the copy of the file at a cell may lack something.
     fn set_due(&mut self, cell: usize, due: bool)
         ensures { self.new.copied.items ≡ self.old.copied.items }
     {

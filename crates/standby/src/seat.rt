@@ -8,12 +8,12 @@ use std::sync::{Condvar, Mutex, Wait};
 /// A conversation over a socket.
 pub type SocketConversation = StandbyConversation<TcpStream, TcpStream>;
 
-/// Who has the seat, and whether anybody may.
+/// The holder of the seat, and whether anybody may take it.
 #[derive(Drop)]
 struct SeatState {
-    // Who takes the seat next.
+    // The conversation that takes the seat next.
     next: Option<SocketConversation>,
-    // A second handle of the connection of who takes the seat next, or else of who has it.
+    // A second handle of the connection that takes the seat next, or else of the one that has it.
     socket: Option<TcpStream>,
     is_promoted: bool,
     // Nobody is let in any more.
@@ -25,14 +25,14 @@ struct SeatState {
 }
 
 impl SeatState {
-    // Breaks off the connection of who has the seat or was to take it.
+    // Breaks off the connection that has the seat or was to take it.
     fn break_off(&self) {
         if let Some(socket) = &self.socket {
             let _ended_already = socket.shutdown(Shutdown::Both);
         }
     }
 
-    // Whether somebody may take the seat.
+    // Returns true if somebody may take the seat.
     fn is_open(&self) -> bool {
         !self.is_promoted && !self.is_closed
     }
@@ -114,7 +114,7 @@ impl CopyingSeat {
         !state.has_failed
     }
 
-    /// Whether the standby is promoted.
+    /// Returns true if the standby is promoted.
     pub fn is_promoted<R: Wait>(&self, rt: &R) -> bool {
         self.state.lock(rt).is_promoted
     }
@@ -137,7 +137,7 @@ impl CopyingSeat {
         self.changed.notify_all();
     }
 
-    /// Whether no more copies are taken.
+    /// Returns true if no more copies are taken.
     pub fn has_ended<R: Wait>(&self, rt: &R) -> bool {
         self.state.lock(rt).has_ended
     }

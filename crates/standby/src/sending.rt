@@ -14,7 +14,7 @@ const PAUSE: u64 = 1;
 
 const LONG_PAUSE: u64 = 10;
 
-/// Whether the thread that sends is to end, and its connection, through which it is broken off.
+/// The state of the thread that sends: whether it is to end, and its connection, through which it is broken off.
 #[derive(Drop)]
 struct EndState {
     is_over: bool,
@@ -46,7 +46,7 @@ impl SendingEnd {
         self.ended.notify_all();
     }
 
-    /// The thread ends at once: nothing more is to be told.
+    /// The thread ends at once: nothing more is to be reported.
     pub fn break_off<R: Wait>(&self, rt: &R) {
         let mut state = self.state.lock(rt);
         state.is_over = true;
@@ -57,7 +57,7 @@ impl SendingEnd {
         self.ended.notify_all();
     }
 
-    // Whether the thread is to end.
+    // Returns true if the thread is to end.
     fn is_over<R: Wait>(&self, rt: &R) -> bool {
         self.state.lock(rt).is_over
     }
@@ -109,7 +109,7 @@ where
     }
 }
 
-// What was logged last.
+// The event that was logged last.
 #[derive(Clone, Copy, PartialEq, Eq)]
 enum LastTold {
     Nothing,

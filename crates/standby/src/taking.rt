@@ -1,4 +1,4 @@
-//! What a standby answers its main server, and whoever promotes it.
+//! The answers of a standby to its main server, and to whoever promotes it.
 ghost use Rattle.std.specs.Prelude.{◌≡◌};
 ghost use Rattle.standby.specs.Entrance.{is_taken, kept_out};
 ghost use Rattle.standby.specs.Refusals.{code_of, name_of};
@@ -21,16 +21,16 @@ use wire_json::{read_request, reply_line};
 /// The most bytes of a line to a standby, beside those of files.
 const LONGEST_LINE: u64 = 4_096;
 
-/// The most reads in which the greeting has to come, and the first request behind it: each is written in one piece.
+/// The most reads in which the greeting has to come, and the first request after it: each is written in one piece.
 const FIRST_READS: u32 = 5;
 
 /// The most bytes of files that a round may have.
 const LARGEST_ROUND: u64 = 268_435_456;
 
-/// Why a standby refuses what is asked of it, beside the refusals that pads have.
+/// The reason why a standby refuses a request, beside the refusals that pads have.
 #[derive(Clone, Copy)]
 pub enum StandbyRefusal {
-    /// 340: the stretch does not stand behind the copy of its file.
+    /// 340: the stretch does not follow the copy of its file.
     OtherPast,
     /// 341: this server is a standby, and answers its main server alone.
     IsStandby,
@@ -62,14 +62,14 @@ impl StandbyRefusal {
     }
 }
 
-/// Why a conversation with a main server is over.
+/// The reason why a conversation with a main server is over.
 #[derive(Drop)]
 pub enum Left {
     /// Whoever has connected did not greet in time.
     Silent,
     /// The connection ended, broke or was silent for too long.
     Gone(Option<io::Error>),
-    /// What was asked is refused, which was answered.
+    /// The request is refused, and this was answered.
     Refused(StandbyRefusal),
     /// There is no memory.
     Memory,
@@ -98,7 +98,7 @@ impl<T: Drop> From<AllocFailed<T>> for Left {
     }
 }
 
-/// Who may send copies to this standby, and its number.
+/// The server that may send copies to this standby, and the standby's number.
 #[derive(Clone, Copy)]
 pub struct StandbyDoor<'a> {
     pub accounts: &'a Accounts,
@@ -108,7 +108,8 @@ pub struct StandbyDoor<'a> {
     pub own: u16,
 }
 
-// Why somebody with this number is kept out, if anything: nobody is let in but the main server, with its token.
+// Returns the reason to keep out somebody with this number, if there is one: nobody is let in but the main server, with
+// its token.
 fn kept_out(main: u16, number: u64, has_token: bool) -> Option<StandbyRefusal>
     ensures { result ≡ kept_out main number has_token }
 {
@@ -121,7 +122,7 @@ fn kept_out(main: u16, number: u64, has_token: bool) -> Option<StandbyRefusal>
     None
 }
 
-// Whether a request of a main server is carried out. None is, once the standby is promoted.
+// Returns true if a request of a main server is carried out. None is, once the standby is promoted.
 fn is_taken(request: &StandbyRequest, is_promoted: bool) -> bool
     ensures { result ≡ is_taken is_promoted request.now }
 {
@@ -140,7 +141,7 @@ pub struct StandbyConversation<S, W> {
     first: Option<StandbyRequest>,
     // The stretches of the round so far.
     round: Vec<FileStretch>,
-    // How many bytes they have.
+    // The number of bytes that they have.
     bytes: u64,
 }
 
@@ -192,7 +193,7 @@ impl<S: Read, W: Write> StandbyConversation<S, W> {
         }
     }
 
-    /// Reads the first request behind the greeting, and returns whether it is `promote`. Any other is left to `answer`.
+    /// Reads the first request after the greeting, and returns whether it is `promote`. Any other is left to `answer`.
     pub fn asks_for_promotion(&mut self, alloc: Global) -> Result<bool, Left> {
         let Some(line) = self.first_line(alloc)? else {
             return Err(Left::Gone(None));

@@ -55,7 +55,7 @@ impl MemoryCopies {
         }
     }
 
-    /// What a broken connection leaves: the copies, and nothing of a round.
+    /// Breaks the connection: the copies stay, and the round is dropped.
     pub fn reconnect(&mut self) {
         self.round.clear();
         self.stretches.clear();
@@ -90,7 +90,7 @@ impl MemoryCopies {
         Ok(StandbyAnswer::Kept { mark })
     }
 
-    // What the copy of a stretch's file is behind the stretch.
+    // The copy of a stretch's file after the stretch.
     fn follow(&self, alloc: Global, stretch: &FileStretch) -> Result<PadCopy, NoStretch> {
         let pad = stretch.pad.as_str();
         let lines = stretch.lines.as_slice();

@@ -19,7 +19,7 @@ const SEEDS: u64 = 8;
 // A round has about 1 MiB: a file of this many lines takes more than one.
 const MANY: u64 = 12_000;
 
-// Whether each copy is the beginning of its file, and has all that the first notes left.
+// Returns true if each copy is the beginning of its file, and has all lines of the first notes.
 fn are_fronts<R: Wait>(
     rt: &R,
     alloc: Global,
@@ -39,7 +39,7 @@ fn are_fronts<R: Wait>(
     Ok(true)
 }
 
-// What the next round meets: two of five connections break.
+// The fault of the next round: two of five connections break.
 fn next_cut(dice: &mut Dice) -> Cut {
     match dice.roll(8) {
         0 => Cut::Put,
@@ -49,7 +49,7 @@ fn next_cut(dice: &mut Dice) -> Cut {
     }
 }
 
-// One connection, with some rounds, while lines are added between them. Returns how many rounds were kept.
+// One connection, with some rounds, while lines are added between them. Returns the number of rounds that were kept.
 fn connect<R: Wait + Clock>(
     rt: &R,
     alloc: Global,
@@ -76,8 +76,8 @@ fn connect<R: Wait + Clock>(
     Ok(kept)
 }
 
-// The number of kept rounds in a seeded run, in which no copy is ever anything but the beginning of its file, and has what was
-// confirmed.
+// The number of kept rounds in a seeded run, in which no copy is ever anything but the beginning of its file, and has
+// the lines that were confirmed.
 fn run<R: Wait + Clock>(rt: &R, alloc: Global, seed: u64) -> Result<u64, Fail> {
     let files = SourceFiles::new(alloc, &NAMES)?;
     let mut copies = MemoryCopies::new(alloc);

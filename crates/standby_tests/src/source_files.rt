@@ -22,14 +22,14 @@ pub struct SourceFile {
 #[derive(Drop)]
 pub struct SourceFiles {
     files: Mutex<Vec<SourceFile>>,
-    // How long each file was behind each note, one row of lengths after the other.
+    // The length of each file after each note, one row of lengths after the other.
     lengths: Mutex<Vec<u64>>,
     cells: usize,
     grown: CellSet,
     notes: AtomicU64,
     /// The mark that was heard last.
     pub heard: AtomicU64,
-    /// Whether the copies were ever told to have everything.
+    /// True if the copies were ever reported to have everything.
     pub had_all: AtomicBool,
 }
 
@@ -83,7 +83,7 @@ impl SourceFiles {
         Ok(text)
     }
 
-    /// How long the file at a cell was behind the first notes, as many as the mark.
+    /// The length of the file at a cell after the first notes, as many as the mark.
     pub fn length_at<R: Wait>(&self, rt: &R, mark: u64, cell: u32) -> u64 {
         let Some(row) = mark.checked_sub(1) else {
             return 0;
@@ -94,7 +94,7 @@ impl SourceFiles {
         self.lengths.lock(rt).get(place).copied().unwrap_or(0)
     }
 
-    /// How many notes there are.
+    /// The number of notes.
     pub fn notes(&self) -> u64 {
         self.notes.load(Ordering::SeqCst)
     }

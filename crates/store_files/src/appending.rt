@@ -1,4 +1,4 @@
-//! Appends what was noted of a pad to its file.
+//! Appends the notes of a pad to its file.
 ghost use Rattle.std.specs.Prelude.{◌≡◌, IfOk};
 
 use crate::keeper::{Keeper, OpenPadFile};
@@ -69,7 +69,7 @@ impl<'r, 'k, R: Wait> Files<'r, 'k, R> {
         Ok(())
     }
 
-    // How many bytes a file has.
+    // The number of bytes of a file.
     fn length_of(&self, file: &File) -> io::Result<u64> {
         Ok(file.metadata()?.len())
     }

@@ -1,4 +1,4 @@
-//! What the threads of a server share about the standby: which files have grown, and how much of them it has.
+//! The state of the standby that the threads of a server share: the files that have grown, and how much of them it has.
 ghost use Rattle.std.specs.Prelude.{◌≡◌, ◌≤◌, true};
 ghost use Rattle.group_commit.specs.Confirmations.{is_unasked};
 
@@ -13,10 +13,11 @@ use std::time::{Clock, Duration};
 /// The seconds without an answer after which a server that promised the standby's confirmation ends.
 const STRICT_PATIENCE: u64 = 10;
 
-/// What one finds out who follows how far replies may go.
+/// The result of following how far replies may go.
 #[derive(Clone, Copy)]
 pub enum Followed {
-    /// They may go further than at the change with this number. `alone`: from now on without the standby, which is said once.
+    /// They may go further than at the change with this number. `alone`: from now on without the standby, which is
+    /// reported once.
     Further { change: u64, alone: bool },
     /// The standby did not answer in time, and the server ends. `first` is true for the first thread that finds out.
     Lost { first: bool },
@@ -24,20 +25,20 @@ pub enum Followed {
     Over,
 }
 
-// What threads wait for: how much the standby has, and how much of it a reply waits for.
+// The state that threads wait on: how much the standby has, and how much of it a reply waits for.
 #[derive(Drop)]
 struct Awaited {
     confirming: Confirming,
-    // A reply waits until the standby has so many notes. None: no reply has waited yet.
+    // A reply waits until the standby has this number of notes. None: no reply has waited yet.
     most: Option<u64>,
-    // How often replies could go further than before.
+    // The number of times that replies could go further than before.
     changes: u64,
     // Nobody follows any more.
     is_over: bool,
 }
 
 impl Awaited {
-    // Whether a reply waits for the standby.
+    // Returns true if a reply waits for the standby.
     fn is_short(&self) -> bool {
         match self.most {
             Some(most) => matches!(self.confirming.next_step(most), Confirmation::Waits),
@@ -45,7 +46,7 @@ impl Awaited {
         }
     }
 
-    // Notes that a reply waits for so many notes.
+    // Notes that a reply waits for this number of notes.
     fn wait_for(&mut self, number: u64) {
         self.most = Some(self.most.map_or(number, |most| most.max(number)));
     }
@@ -56,18 +57,18 @@ impl Awaited {
     }
 }
 
-/// What came of waiting for the standby.
+/// The result of waiting for the standby.
 #[derive(Drop)]
 pub enum Waited {
     /// It has what was waited for, or nobody need wait any longer.
     Confirmed(Confirmed),
-    /// It did not answer in time: from now on the server goes on alone. This is said once.
+    /// It did not answer in time: from now on the server goes on alone. This is reported once.
     Alone(Confirmed),
     /// It did not answer in time, and the server ends. `first` is true for the first thread that finds out.
     Lost { first: bool },
 }
 
-/// The files that have grown since whoever copies them last looked, and what the standby has confirmed.
+/// The files that have grown since whoever copies them last looked, and the notes that the standby has confirmed.
 #[derive(Drop)]
 pub struct Copying {
     is_copied: bool,
@@ -81,16 +82,16 @@ pub struct Copying {
     pub(crate) progress: CopyProgress,
 }
 
-/// How far the standby is, for those who watch the server. The times are in seconds since 1970.
+/// The progress of the standby, for those who watch the server. The times are in seconds since 1970.
 #[derive(Drop)]
 pub struct CopyProgress {
     /// Bytes of files that are synced here.
     pub synced_bytes: Counter,
     /// Those of them that the standby has.
     pub copied_bytes: Counter,
-    /// When it last answered, or the server began.
+    /// The time at which it last answered, or the server began.
     pub heard_at: Counter,
-    /// When it last had everything, or the server began.
+    /// The time at which it last had everything, or the server began.
     pub whole_at: Counter,
 }
 
@@ -120,7 +121,7 @@ impl Copying {
         })
     }
 
-    /// Whether a standby has a copy.
+    /// Returns true if a standby has a copy.
     pub fn is_copied(&self) -> bool {
         self.is_copied
     }
@@ -170,8 +171,8 @@ impl Copying {
         }
     }
 
-    /// How many of the first `most` notes may be revealed. Nobody waits for it, but whoever follows is told that a reply
-    /// waits if these are not all.
+    /// Returns how many of the first `most` notes may be revealed. It does not wait; if these are not all, it wakes the
+    /// thread that follows, because a reply waits.
     pub fn reach<R: Wait>(&self, rt: &R, most: u64) -> Confirmation {
         if let Some(confirmed) = self.asked.unasked(most) {
             return Confirmation::Given(confirmed);
@@ -222,7 +223,7 @@ impl Copying {
         self.heard.notify_all();
     }
 
-    /// Waits, at most so long, until the standby has everything that was there at the start, where no reply may go out
+    /// Waits for at most `most` until the standby has everything that was there at the start, if no reply may go out
     /// before. Returns whether it has, or None if it will not.
     pub fn wait_at_start<R: Wait + Clock>(&self, rt: &R, most: Duration) -> Option<bool> {
         if self.asked != Confirm::Strict {
@@ -239,7 +240,7 @@ impl Copying {
         }
     }
 
-    /// The standby has synced the first `mark` notes. `is_all` tells that it had all that there was when it said so. Returns
+    /// The standby has synced the first `mark` notes. `is_all` is true if it had everything when it confirmed. Returns
     /// whether the server was alone until then.
     pub fn hear<R: Wait>(&self, rt: &R, mark: u64, is_all: bool) -> bool {
         let mut state = self.awaited.lock(rt);
@@ -266,7 +267,7 @@ impl Copying {
         self.heard.notify_all();
     }
 
-    /// What replies wait for. None: no standby has a copy.
+    /// The condition that replies wait for. None: no standby has a copy.
     pub fn asked(&self) -> Option<Confirm> {
         if self.is_copied {
             Some(self.asked)
@@ -275,13 +276,13 @@ impl Copying {
         }
     }
 
-    /// How many notes the standby has. None: it may lack some of what was there at the start.
+    /// The number of notes that the standby has. None: it may lack some of the bytes that were there at the start.
     pub fn copied<R: Wait>(&self, rt: &R) -> Option<u64> {
         self.awaited.lock(rt).confirming.copied()
     }
 
-    /// On how many machines what is answered now is kept: 2 while replies wait until the standby has what they reveal, otherwise
-    /// 1. Where no reply ever waits for a standby, it is always 1.
+    /// The number of machines that keep the answers given now: 2 while replies wait until the standby has what they
+    /// reveal, otherwise 1. Where no reply ever waits for a standby, it is always 1.
     pub fn machines<R: Wait>(&self, rt: &R) -> u32
         ensures counted { (1 ≤ result) × (result ≤ 2) }
         ensures unasked { is_unasked self.now.asked ≡ true → result ≡ 1 }
@@ -292,13 +293,13 @@ impl Copying {
         self.awaited.lock(rt).confirming.machines()
     }
 
-    /// Whether the standby did not answer a server that promised never to go on without it.
+    /// Returns true if the standby did not answer a server that promised never to go on without it.
     pub fn is_lost(&self) -> bool {
         self.is_lost.load(Ordering::SeqCst)
     }
 }
 
-// How long a reply waits for the standby.
+// The time that a reply waits for the standby.
 fn patience_of(policy: Confirm) -> Duration {
     match policy {
         Confirm::Never => Duration::from_secs(0),

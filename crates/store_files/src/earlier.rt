@@ -5,7 +5,7 @@ use std::str;
 /// The beginning of each line from which on a server writes.
 const HEADER: &[u8] = b"[{\"format\":";
 
-/// What is before the server's number in such a line.
+/// The text before the server's number in such a line.
 const FIELD: &str = "\"replica\":";
 
 /// Adds the numbers that these whole lines of a pad's file name, each once.

@@ -28,7 +28,7 @@ use std::time::{Clock, Duration, SystemTime, UNIX_EPOCH};
 use store_format::PadWriter;
 use store_records::records_of;
 
-/// The seconds after which a server that waits for the standby at its start looks whether the store has failed.
+/// The seconds between checks for a failed store while a server waits for the standby at its start.
 const A_WHILE: u64 = 1;
 
 /// A pad's file, open for appending and reading, and its writer. None: the file is still to be made.
@@ -38,7 +38,7 @@ pub struct OpenPadFile {
     pub writer: PadWriter,
     /// The name of the pad.
     pub name: Option<String>,
-    /// How many bytes of the file are synced, where a standby has a copy.
+    /// The number of bytes of the file that are synced, if a standby has a copy.
     pub synced: u64,
 }
 
@@ -55,12 +55,13 @@ pub struct Keeper {
     pub(crate) reserve: Reserve,
     spares: Spares,
     pub(crate) syncs: Histogram,
-    // Whether it was logged that no file can be made for a pad.
+    // True if it was logged that no file can be made for a pad.
     is_short: AtomicBool,
     held: OpenFolder,
 }
 
-/// What a keeper has beside the files of the pads. All that may fail in making it is done before these are handed over.
+/// The parts of a keeper other than the files of the pads. All that may fail in making it is done before these are
+/// handed over.
 #[derive(Drop)]
 pub(crate) struct KeeperParts {
     pub commits: Commits,
@@ -69,7 +70,7 @@ pub(crate) struct KeeperParts {
     pub syncs: Histogram,
 }
 
-/// What stays open of a store as long as the server runs.
+/// The files of a store that stay open as long as the server runs.
 #[derive(Drop)]
 pub struct OpenFolder {
     /// The lock of the folder.
@@ -108,9 +109,9 @@ impl Keeper {
         keeper
     }
 
-    /// Notes what a request leaves to be kept: a line for each record, which whoever settles appends to the pad's file. It
-    /// is called under the pad's lock, so that the lines have the order of the steps. A failure is logged, and from then
-    /// on nothing is settled.
+    /// Notes the records that a request leaves to be kept: a line for each, which the thread that settles appends to
+    /// the pad's file. It is called under the pad's lock, so that the lines have the order of the steps. A failure is
+    /// logged, and from then on nothing is settled.
     pub fn note<R: Wait>(&self, rt: &R, alloc: Global, told: &Answered<'_>)
         ensures { IsKept told.now }
     {
@@ -150,7 +151,7 @@ impl Keeper {
         self.spares.release(rt);
     }
 
-    // Whether a creation has ended without naming a pad: it was refused, or went past the last cell.
+    // Returns true if a creation has ended without naming a pad: it was refused, or went past the last cell.
     fn has_named_nothing(&self, told: &Answered<'_>) -> bool {
         match (told.request, told.answer) {
             (Request::Create { .. }, Err(_)) => true,
@@ -161,9 +162,9 @@ impl Keeper {
         }
     }
 
-    /// Whether what a request leaves can be kept, as far as that is known: 901 if it cannot, 900 if there is no memory
-    /// to make a file with. It is called before any pad is asked. A creation is promised a file, which `note` or
-    /// `release` takes back.
+    /// Checks that the records of a request can be kept, as far as that is known: returns 901 if they cannot, 900 if
+    /// there is no memory to make a file with. It is called before any pad is asked. A creation is promised a file,
+    /// which `note` or `release` takes back.
     pub fn keeps<R: Wait>(&self, rt: &R, alloc: Global, request: &Request) -> Result<(), Refusal>
         ensures { IfErr result (λ e. (e ≡ Refusal.StoreFull) ⊎ (e ≡ Refusal.Memory)) }
     {
@@ -195,7 +196,7 @@ impl Keeper {
         }
     }
 
-    // Whether there is room on the disk. If it was full, this is checked again once a second.
+    // Returns true if there is room on the disk. If it was full, this is checked again once a second.
     fn has_room<R: Wait>(&self, rt: &R, alloc: Global) -> bool {
         if self.reserve.is_whole(rt) {
             return true;
@@ -245,20 +246,20 @@ impl Keeper {
         }
     }
 
-    /// Whether a write or a sync has failed, after which nothing is settled.
+    /// Returns true if a write or a sync has failed, after which nothing is settled.
     pub fn has_failed(&self) -> bool {
         self.commits.has_failed()
     }
 
-    /// Waits until everything noted before is synced, or fails, and returns how many notes these are. After it, `look` says
-    /// how much of them may be revealed.
+    /// Waits until everything noted before is synced, or fails, and returns the number of these notes. After it, `look`
+    /// returns how many of them may be revealed.
     pub fn sync<R: Wait>(&self, rt: &R) -> io::Result<u64> {
         let kept = self.commits.settle(rt, &Files::new(rt, self))?;
         Ok(kept.number())
     }
 
-    /// How much of what the first `most` notes leave may be revealed: what is synced, and what the standby has where that was
-    /// promised. None: nothing yet. Nobody waits for it. It fails if the store or the standby is lost.
+    /// Returns how many of the first `most` notes may be revealed: those that are synced, and that the standby has if
+    /// that was promised. None: none yet. It does not wait. It fails if the store or the standby is lost.
     pub fn look<R: Wait>(&self, rt: &R, most: u64) -> io::Result<Option<Promised>> {
         let Some(kept) = self.commits.look(rt, most) else {
             return if self.has_failed() {
@@ -274,9 +275,9 @@ impl Keeper {
         }
     }
 
-    /// Waits until more may be revealed than at the change `seen`, and returns the number of the last change. One thread calls
-    /// it, which then tells those whose replies wait. If the standby does not answer in time, the server goes on alone, or
-    /// nothing is settled any more, and this is logged. None: the server has ended, or is to end.
+    /// Waits until more may be revealed than at the change `seen`, and returns the number of the last change. One
+    /// thread calls it, which then wakes those whose replies wait. If the standby does not answer in time, the server
+    /// goes on alone, or nothing is settled any more, and this is logged. None: the server has ended, or is to end.
     pub fn follow<R: Wait + Clock>(&self, rt: &R, seen: u64) -> Option<u64> {
         match self.copying.follow(rt, seen) {
             Followed::Further { change, alone } => {
@@ -338,8 +339,8 @@ impl Keeper {
         false
     }
 
-    /// On how many machines what is answered now is kept: 2 while replies wait until the standby has what they reveal, otherwise
-    /// 1, this one. A server without a store has no keeper, and keeps nothing.
+    /// The number of machines that keep the answers given now: 2 while replies wait until the standby has what they
+    /// reveal, otherwise 1, this one. A server without a store has no keeper, and keeps nothing.
     pub fn machines<R: Wait>(&self, rt: &R) -> u32
         ensures counted { (1 ≤ result) × (result ≤ 2) }
         ensures unasked { is_unasked self.now.copying.asked ≡ true → result ≡ 1 }
@@ -347,7 +348,7 @@ impl Keeper {
         self.copying.machines(rt)
     }
 
-    /// Whether the server ends because the standby did not answer.
+    /// Returns true if the server ends because the standby did not answer.
     pub fn has_lost_standby(&self) -> bool {
         self.copying.is_lost()
     }

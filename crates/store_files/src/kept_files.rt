@@ -29,12 +29,12 @@ impl<'k> KeptFiles<'k> {
         self.keeper.copying.give_up(rt);
     }
 
-    /// Whether the store has failed.
+    /// Returns true if the store has failed.
     pub fn has_failed(&self) -> bool {
         self.keeper.has_failed()
     }
 
-    // At most so many synced bytes of a file, from this place on.
+    // Reads at most `most` synced bytes of a file, from this place on.
     fn bytes_from<R: Wait>(
         &self,
         rt: &R,

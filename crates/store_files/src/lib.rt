@@ -1,8 +1,8 @@
 //! The files of a store: read at a server's start, and appended to and synced while it runs.
 //!
-//! It depends on `store_format` for the lines of a file, on `store_records` for what a request leaves, and on `shared_pads` for the
-//! row of pads. It knows nothing of clients and peers: whoever writes replies asks `Keeper` first how much is kept, by `sync`
-//! and `look`, and whoever writes to a peer calls `settle`.
+//! It depends on `store_format` for the lines of a file, on `store_records` for the records of a request, and on
+//! `shared_pads` for the row of pads. It knows nothing of clients and peers: whoever writes replies asks `Keeper` first
+//! how much is kept, by `sync` and `look`, and whoever writes to a peer calls `settle`.
 #![tactic(auto)]
 
 mod appending;

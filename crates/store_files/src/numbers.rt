@@ -1,4 +1,4 @@
-//! What a keeper tells those who watch the server.
+//! The numbers of a keeper, for those who watch the server.
 use crate::keeper::Keeper;
 use group_commit::Confirm;
 use server_counts::{StandbyNumbers, StoreNumbers};
@@ -6,15 +6,15 @@ use std::alloc::{AllocError, Global};
 use std::sync::Wait;
 
 impl Keeper {
-    /// What replies wait for. None: no standby has a copy.
+    /// The condition that replies wait for. None: no standby has a copy.
     pub fn confirm(&self) -> Option<Confirm> {
         self.copying.asked()
     }
 
-    /// How far the standby is, and whether it has everything that is synced here. None: no standby has a copy.
+    /// The progress of the standby, and true if it has everything that is synced here. None: no standby has a copy.
     pub fn standby_numbers<R: Wait>(&self, rt: &R) -> Option<(StandbyNumbers, bool)> {
         let _asked = self.confirm()?;
-        // The standby's notes are read first: it may have more than is told of it, and never less.
+        // The standby's notes are read first: it may have more than is reported, and never less.
         let copied = self.copying.copied(rt);
         let progress = &self.copying.progress;
         let (copied_bytes, heard_at, whole_at) = (
@@ -42,7 +42,7 @@ impl Keeper {
         Some((numbers, has_all))
     }
 
-    /// What was noted and synced, and how far the standby is.
+    /// The numbers of notes and syncs, and the progress of the standby.
     pub fn numbers<R: Wait>(&self, rt: &R, alloc: Global) -> Result<StoreNumbers, AllocError> {
         let standby = self.standby_numbers(rt).map(|(numbers, _has_all)| numbers);
         let notes = self.commits.counts(rt);

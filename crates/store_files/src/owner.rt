@@ -1,11 +1,11 @@
-//! Who owns a store.
+//! The owner of a store.
 ghost use Rattle.std.specs.Prelude.{◌≡◌, ◌≤◌};
 ghost use Rattle.store_files.specs.Ownership.{ownership};
 
 use std::marker::Model;
 
-/// The number of a server that opens a store, and what it makes of the pads there. The store is taken if each file is that
-/// of a server with this number, or if the number is new and no operation has it.
+/// A server that opens a store: its number, whether that is new, and the limit of visits on a pad. The store is taken
+/// if each file is that of a server with this number, or if the number is new and no operation has it.
 #[derive(Drop)]
 pub struct Owner {
     replica: u16,
@@ -46,14 +46,14 @@ impl Owner {
         self.replica
     }
 
-    // How many visits may be present on a pad at once.
+    // The number of visits that may be present on a pad at once.
     pub(crate) fn present(&self) -> u64
         ensures { result ≡ self.now.present }
     {
         self.present
     }
 
-    // Whether no server has had the number before.
+    // Returns true if no server has had the number before.
     pub(crate) fn is_new(&self) -> bool
         ensures { result ≡ self.now.is_new }
     {

@@ -12,7 +12,7 @@ use std::io::ErrorKind;
 use std::{fs, io};
 use store_format::{Damage, Loaded, PadWriter};
 
-/// How many files of one pad's name may be moved aside.
+/// The number of files of one pad's name that may be moved aside.
 const MOST_ASIDE: u32 = 1_000;
 
 /// A pad that was loaded, with its file open for appending.
@@ -25,7 +25,7 @@ pub struct PadFile<S: Sequence> {
     pub length: u64,
 }
 
-/// Why a file of a store is refused.
+/// The reason why a file of a store is refused.
 #[derive(Clone, Copy)]
 pub enum Unloaded {
     /// It could not be read, cut or moved.
@@ -88,7 +88,7 @@ fn path_of(alloc: Global, folder: &str, name: &str) -> io::Result<String> {
     Ok(format!(in alloc; "{folder}/{name}")?)
 }
 
-// Whether a pad's file is this server's, or may become so: if the number is new, no operation has it.
+// Checks that a pad's file is this server's, or may become so: if the number is new, no operation has it.
 fn check_owner<S: Sequence>(owner: &Owner, loaded: &Loaded<S>) -> Result<(), Unloaded> {
     let replica = loaded.header.replica;
     if replica == u64::from(owner.replica()) {

@@ -60,7 +60,7 @@ pub fn load_from<R: Read, S: Sequence>(
     Err(io::Error::from(ErrorKind::FileTooLarge))
 }
 
-// Whether the number of bytes fits its type.
+// Returns true if the number of bytes fits its type.
 fn has_room<S: Sequence>(loading: &Loading<S>, more: usize) -> bool
     ensures { IsTrue result → loading.now.taken + more ≤ 18446744073709551615 }
 {

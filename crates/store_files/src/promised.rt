@@ -1,10 +1,10 @@
-//! What says that everything that was answered is kept.
+//! The proof that every answer is kept.
 ghost use Rattle.std.specs.Prelude.{◌≡◌, min};
 
 use group_commit::{Confirmed, Kept};
 
-/// What was answered is kept wherever this server promised to keep it: on its own disk, and on that of the standby. A keeper
-/// alone gives it: it is made of what a sync and a confirmation give.
+/// The proof that answers are kept wherever this server promised to keep them: on its own disk, and on that of the
+/// standby. Only a keeper makes it, from the results of a sync and a confirmation.
 #[derive(Drop)]
 pub struct Promised {
     kept: Kept,
@@ -19,7 +19,7 @@ impl Promised {
         Promised { kept, confirmed }
     }
 
-    /// How many notes this is said of: the first so many of the server.
+    /// The number of notes that this covers: the first ones of the server.
     pub fn number(&self) -> u64
         ensures { result ≡ min self.now.kept.number self.now.confirmed.number }
     {

@@ -17,7 +17,7 @@ const BLOCK: usize = 1_048_576;
 #[derive(Drop)]
 struct State {
     file: File,
-    /// Whether all its bytes are there.
+    /// True if all its bytes are there.
     is_whole: bool,
     /// The second of the last attempt to make it whole.
     tried: u64,
@@ -48,7 +48,7 @@ impl Reserve {
         })
     }
 
-    /// Whether the reserve is whole.
+    /// Returns true if the reserve is whole.
     pub fn is_whole<R: Wait>(&self, rt: &R) -> bool {
         self.state.lock(rt).is_whole
     }
@@ -97,7 +97,7 @@ impl State {
     }
 }
 
-/// Whether a call failed because the disk, or the server's quota of it, is full.
+/// Returns true if a call failed because the disk, or the server's quota of it, is full.
 pub fn is_full(cause: &io::Error) -> bool {
     matches!(
         cause.kind(),

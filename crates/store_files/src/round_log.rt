@@ -1,6 +1,6 @@
-//! The log of a standby: the stretches of files that it was sent since the files were last synced. One sync of the log keeps
-//! a whole round, whatever number of pads it is of; the files themselves are written behind it, and synced from time to
-//! time.
+//! The log of a standby: the stretches of files that it was sent since the files were last synced. One sync of the log
+//! keeps a whole round, whatever number of pads it is of; the files themselves are written after it, and synced from
+//! time to time.
 ghost use Rattle.std.specs.Prelude.{◌≡◌, None, OnOk};
 ghost use Rattle.std.specs.Io.KnownBytes.{Appends};
 ghost use Rattle.file_copies.specs.Rounds.{round_bytes};
@@ -92,7 +92,7 @@ impl RoundLog {
         })
     }
 
-    /// Appends a round, and syncs it. If that fails, the log is as it was, as far as the system lets it be.
+    /// Appends a round, and syncs it. If that fails, the log is restored, as far as the system allows.
     pub fn append(&mut self, alloc: Global, round: &[FileStretch]) -> io::Result<Logged> {
         match log_round(alloc, &mut self.log, round) {
             Ok(logged) => {
@@ -106,7 +106,7 @@ impl RoundLog {
         }
     }
 
-    /// Whether the files should be synced and the log be emptied.
+    /// Returns true if the files should be synced and the log emptied.
     pub fn is_long(&self) -> bool {
         self.length >= LONGEST
     }
@@ -154,7 +154,7 @@ pub fn put_back(files: &HostRuntime, folder: &str, open: &File) -> io::Result<()
     open.sync_all()
 }
 
-// The first stretch of these bytes, and what follows it. None: a crash cut it off, or there is none.
+// The first stretch of these bytes, and the bytes after it. None: a crash cut it off, or there is none.
 fn next_stretch<'a>(alloc: Global, bytes: &'a [u8]) -> io::Result<Option<(FileStretch, &'a [u8])>> {
     let Some(end) = bytes.iter().position(|byte| *byte == b'\n') else {
         return Ok(None);

@@ -25,7 +25,7 @@ use store_format::Damage;
 pub struct CopiedFile {
     pub pad: Name,
     pub copy: PadCopy,
-    /// Whether all its bytes are synced in the file itself, and not in the log alone.
+    /// True if all its bytes are synced in the file itself, and not in the log alone.
     is_synced: bool,
 }
 
@@ -33,20 +33,20 @@ pub struct CopiedFile {
 /// it has nothing.
 #[derive(Drop)]
 pub struct KeptRound {
-    // What the log says, unless the round has nothing.
+    // The log's proof, unless the round has nothing.
     logged: Option<Logged>,
 }
 
-/// Why a round is not kept.
+/// The reason why a round is not kept.
 #[derive(Drop)]
 pub enum Unkept {
-    /// A stretch does not stand behind the copy of its pad's file. Nothing was changed.
+    /// A stretch does not continue the copy of its pad's file. Nothing was changed.
     NoStretch { pad: Name, why: NoStretch },
     /// The disk is full. Nothing was changed.
     Full,
     /// There is no memory. Nothing was changed.
     Memory,
-    /// The system refused a file. What was confirmed is kept, and the next start completes the files.
+    /// The system refused a file. The confirmed rounds are kept, and the next start completes the files.
     Failed(io::Error),
 }
 
@@ -62,7 +62,7 @@ impl<T: Drop> From<AllocFailed<T>> for Unkept {
     }
 }
 
-/// The copies of all files, and the log of what was sent since they were last synced.
+/// The copies of all files, and the log of the rounds sent since they were last synced.
 #[derive(Drop)]
 pub struct StandbyStore {
     files: HostRuntime,
@@ -186,13 +186,13 @@ impl StandbyStore {
         }
     }
 
-    // The place of the copy of a pad's file, or else where it would be.
+    // The place of the copy of a pad's file, or else the place where it would be.
     fn find(&self, pad: &Name) -> Result<usize, usize> {
         self.copies
             .binary_search_by(|copied| copied.pad.as_str().cmp(pad.as_str()))
     }
 
-    // The copy at a place with a stretch behind it.
+    // The copy at a place, followed by a stretch.
     fn followed_by(
         &self,
         alloc: Global,
@@ -233,7 +233,7 @@ impl StandbyStore {
     }
 }
 
-// The copy in a file of the folder. What a crash left behind its last whole line is cut off.
+// The copy in a file of the folder. The bytes that a crash left after its last whole line are cut off.
 fn read_copy<'f>(
     files: &HostRuntime,
     folder: &'f str,
@@ -265,7 +265,7 @@ fn read_copy<'f>(
     }
 }
 
-// Cuts a file off behind this many bytes, and syncs it.
+// Cuts a file off after this many bytes, and syncs it.
 fn cut(files: &HostRuntime, folder: &str, pad: &str, length: u64) -> io::Result<()> {
     let file = open_copy(files, folder, pad)?;
     file.set_len(length)?;

@@ -1,9 +1,9 @@
-//! Why the pads of a store cannot be served.
+//! The reason why the pads of a store cannot be served.
 use std::alloc::AllocError;
 use std::io;
 use thiserror::Error;
 
-/// Why the pads of a store cannot be served. Each names the folder as it was given to `restore`.
+/// The reason why the pads of a store cannot be served. Each names the folder as it was given to `restore`.
 #[derive(Clone, Copy, Debug, Error)]
 pub enum StoreError<'a> {
     /// The system refused a folder or a file, to read, to write, to cut or to rename it.

@@ -27,7 +27,7 @@ use store_format::PadWriter;
 /// The permissions of a store's folder that the server makes: for its user alone.
 const PRIVATE_FOLDER: u32 = 0o700;
 
-/// The row of a server, and who keeps it in files.
+/// The row of a server, and the keeper of its files.
 #[derive(Drop)]
 pub struct Stored {
     /// The pads of the files, in the order of the files' names, and after them the free cells.
@@ -36,7 +36,7 @@ pub struct Stored {
     pub revisions: Vec<u64>,
     /// The earlier numbers of the server: those of the servers that wrote files before, but its own.
     pub numbers: Vec<u16>,
-    /// Notes what is answered at these cells. It holds the folder's lock until it is dropped.
+    /// Notes the answers at these cells. It holds the folder's lock until it is dropped.
     pub keeper: Keeper,
 }
 
@@ -51,8 +51,8 @@ pub struct Size {
 
 /// Loads the pads of a folder, each from its file, in the order of the files' names. The other cells are free. A server
 /// calls it once, before it serves anyone. The folder is made if it is not there, and its lock is taken; each file is
-/// cut off after its last whole line, and 16 MiB of the disk are taken as a reserve. `confirm` says what replies wait for
-/// where a standby has a copy of the store.
+/// cut off after its last whole line, and 16 MiB of the disk are taken as a reserve. `confirm` is the condition that
+/// replies wait for if a standby has a copy of the store.
 pub fn restore<'f, R>(
     rt: &R,
     files: HostRuntime,
@@ -76,7 +76,7 @@ where
     })
 }
 
-// What the keeper of these files has beside them.
+// The parts of the keeper of these files other than the files.
 fn keeper_parts<'f, R>(
     rt: &R,
     files: &HostRuntime,
@@ -100,7 +100,7 @@ where
     })
 }
 
-// Takes the reserve of the disk, or says that there is no room for it.
+// Takes the reserve of the disk, or logs that there is no room for it.
 fn open_reserve<'f, R>(
     rt: &R,
     files: &HostRuntime,

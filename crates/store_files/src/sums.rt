@@ -4,7 +4,8 @@ use std::fs::File;
 use std::os::unix::fs::FileExt;
 use std::{io, str};
 
-/// How far before the end of a line its sum begins: the sum, its closing quote, the bracket and the line feed.
+/// The number of bytes from the beginning of the sum to the end of its line: the sum, its closing quote, the bracket
+/// and the line feed.
 const SUM_AND_END: u64 = 67;
 
 /// The number of bytes of a sum.

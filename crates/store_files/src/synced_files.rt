@@ -14,8 +14,8 @@ pub struct SyncedFile {
     pub length: u64,
 }
 
-/// The files of pads, as far as they are synced, and who is told what the copies have: those of a server's store, or a list in
-/// memory in tests.
+/// The files of pads, as far as they are synced, and the receiver of reports on the copies: the files of a server's
+/// store, or a list in memory in tests.
 pub trait SyncedFiles {
     /// The number of cells.
     fn cells(&self) -> usize;
@@ -23,8 +23,8 @@ pub trait SyncedFiles {
     /// The cells whose files have grown since this was last called. One thread calls it.
     fn take_grown(&self, alloc: Global) -> Result<Vec<u32>, AllocError>;
 
-    /// Waits until more than the first `seen` notes are synced, at most so long, and returns how many are. None: the files can
-    /// no longer be written.
+    /// Waits until more than the first `seen` notes are synced, for at most `most`, and returns how many are. None: the
+    /// files can no longer be written.
     fn follow<R: Wait + Clock>(&self, rt: &R, seen: u64, most: Duration) -> Option<u64>;
 
     /// The file at a cell. None: the cell has no pad yet.
@@ -50,10 +50,10 @@ pub trait SyncedFiles {
         end: u64,
     ) -> io::Result<Option<String>>;
 
-    /// The copies have synced a round, after which they have so many bytes. For those who watch the server.
+    /// The copies have synced a round, after which they have this number of bytes. For those who watch the server.
     fn note_round(&self, bytes: u64);
 
-    /// The copies have what is behind the first notes, as many as the mark. `is_all` tells that they had everything. Returns
-    /// whether the server was alone until then.
+    /// The copies have the bytes of the first notes, as many as the mark. `is_all` is true if they had everything.
+    /// Returns true if the server was alone until then.
     fn hear<R: Wait>(&self, rt: &R, heard: &HeardMark, is_all: bool) -> bool;
 }

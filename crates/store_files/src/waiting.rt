@@ -32,7 +32,7 @@ impl<'a, W> Waiting<'a, W> {
 }
 
 impl<W: Write> Waiting<'_, W> {
-    /// Writes some of these bytes. Where it waits for a store, what that store promised is there.
+    /// Writes some of these bytes. If it waits for a store, `promised` is that store's promise.
     pub fn write(&mut self, promised: Option<Promised>, bytes: &[u8]) -> io::Result<usize>
         requires { is_some promised ≡ is_some self.old.keeper }
         ensures bound { WritesAtMost result bytes.now }
@@ -42,7 +42,7 @@ impl<W: Write> Waiting<'_, W> {
         self.inner.write(bytes)
     }
 
-    /// Passes on what is buffered.
+    /// Passes on the buffered bytes.
     pub fn flush(&mut self) -> io::Result<()>
         ensures { Keeps (W.contents self.old.inner) (W.contents self.new.inner) }
     {

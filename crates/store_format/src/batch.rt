@@ -1,4 +1,4 @@
-//! Which lines were written after all lines before them were synced.
+//! The lines that were written after all lines before them were synced.
 ghost use Rattle.std.specs.Prelude.{◌≡◌, IfOk};
 ghost use Rattle.std.specs.List.{list_any};
 ghost use Rattle.store_format.specs.Batches as batches;
@@ -8,7 +8,7 @@ use crate::entry::value_of;
 use crate::line::{find_feed, text_within_line};
 use std::alloc::{AllocError, Global};
 
-/// Whether one of the whole lines of these bytes begins a batch. Everything before such a line was synced.
+/// Returns true if one of the whole lines of these bytes begins a batch. Everything before such a line was synced.
 pub fn has_beginning(alloc: Global, bytes: &[u8]) -> Result<bool, AllocError>
     ensures { IfOk result (λ found. found ≡ list_any batches.begins_batch (whole_lines bytes.now)) }
 {
@@ -22,7 +22,7 @@ pub fn has_beginning(alloc: Global, bytes: &[u8]) -> Result<bool, AllocError>
     Ok(false)
 }
 
-// Whether a line has the form of one, and does not say that it was written together with an earlier line.
+// Returns true if a line has the form of one, and does not say that it was written together with an earlier line.
 fn begins_batch(alloc: Global, line: &[u8]) -> Result<bool, AllocError>
     ensures { IfOk result (λ begins. begins ≡ batches.begins_batch line.now) }
 {

@@ -1,4 +1,4 @@
-//! What a line says.
+//! The meaning of a line.
 ghost use Rattle.std.specs.Prelude.{◌≡◌, IfOk, option_map};
 ghost use Rattle.serde_json.specs.View.{view};
 ghost use Rattle.wire_json.specs.Lines as lines;
@@ -12,10 +12,10 @@ use serde_json::Value;
 use std::alloc::{AllocError, Global};
 use store_records::Record;
 
-/// What a line says: which pad and server the file belongs to, or what was done on the pad.
+/// The meaning of a line: the pad and the server of the file, or a step that was done on the pad.
 #[derive(Debug, Drop)]
 pub enum StoreLine {
-    /// The first line, and each line from which on another server wrote.
+    /// The first line, and each later one that begins the lines of another server.
     Header(Header),
     Record(Record),
 }

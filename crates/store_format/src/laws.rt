@@ -1,4 +1,4 @@
-//! What is left of a pad's file after a crash. Each law is the contract of a function without parameters.
+//! The remains of a pad's file after a crash. Each law is the contract of a function without parameters.
 ghost use Rattle.store_format.specs.Laws.{CrashLaw, LinesLaw};
 ghost use Rattle.store_format.specs.Writing.{WritingLaw};
 
@@ -8,8 +8,8 @@ pub fn lines_law()
     ensures { LinesLaw }
 {}
 
-/// What a crash leaves of a pad's file is read as a restarted state that the pad had, and nothing that was synced is
-/// lost.
+/// The remains of a pad's file after a crash are read as a restarted state that the pad had, and nothing that was
+/// synced is lost.
 pub fn crash_law()
     ensures { CrashLaw }
 {}

@@ -74,21 +74,21 @@ pub fn text_within_line<'a>(alloc: Global, line: &'a [u8]) -> Result<Option<&'a 
     }
 }
 
-/// Whether a line is this one, and its sum consists of digits.
+/// Returns true if a line equals the framed one, and its sum consists of digits.
 fn is_framed(line: &[u8], framed: &[u8], sum: &[u8]) -> bool
     ensures { result ≡ (bytes_eq line.now framed.now && list_all lines.is_digit sum.now) }
 {
     line == framed && has_digits(sum)
 }
 
-/// Whether a sum consists of digits.
+/// Returns true if a sum consists of digits.
 fn has_digits(sum: &[u8]) -> bool
     ensures { result ≡ list_all lines.is_digit sum.now }
 {
     sum.iter().all(|byte| is_digit(*byte))
 }
 
-/// Whether a byte is a digit of a sum: 0-9 or a-f.
+/// Returns true if a byte is a digit of a sum: 0-9 or a-f.
 fn is_digit(byte: u8) -> bool
     ensures { result ≡ lines.is_digit byte }
 {

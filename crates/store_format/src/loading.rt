@@ -38,7 +38,7 @@ impl<S: Sequence> Model for Loading<S> {
     ghost invariant = { λ l. IsFresh l.pad l.stage × IsWithin l.taken l.stage };
 }
 
-// How far the lines of a file were read.
+// The progress in reading the lines of a file.
 #[derive(Drop)]
 enum LoadStage {
     /// No line was read.

@@ -24,7 +24,7 @@ use std::alloc::{AllocError, Global};
 use store_records::{Record, replay};
 use thiserror::Error;
 
-/// Why a file cannot be loaded.
+/// The reason a file cannot be loaded.
 #[derive(Clone, Copy, Debug, PartialEq, Eq, Error)]
 pub enum Damage {
     #[error("out of memory")]
@@ -54,11 +54,12 @@ pub struct Loaded<S: Sequence> {
     pub sum: String,
     /// The number of bytes of the lines that were read.
     pub whole: u64,
-    /// The number of bytes after those lines: a part of a line, or what a crash left of lines that were never synced.
+    /// The number of bytes after those lines: a part of a line, or the remains of lines that were never synced.
     pub cut: u64,
 }
 
-/// What the next line follows: the last header, the sum of the last line, and the number of bytes of the lines.
+/// The state that the next line follows: the last header, the sum of the last line, and the number of bytes of the
+/// lines.
 #[derive(Drop)]
 pub struct Tail {
     pub header: Header,
@@ -108,7 +109,7 @@ pub fn load<S: Sequence>(
     loading.finish(alloc, name, bytes)
 }
 
-/// Whether a pad has this name.
+/// Checks that a pad has this name.
 pub fn check_name<S: Sequence>(pad: &Pad<S>, name: &str) -> Result<(), Damage>
     ensures { MatchResult result (λ _. (read : Read)
         → if_called name.now read (name_of pad.now.owned) ≡ Ok read)

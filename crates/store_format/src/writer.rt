@@ -105,8 +105,8 @@ impl PadWriter {
         Ok(())
     }
 
-    /// Appends the lines that wait, in one piece. A fault of the file is that of the writer from then on; it is `Other` if
-    /// there was one before, and then the file is left as it is.
+    /// Appends the lines that wait, in one piece. A fault of the file is that of the writer from then on; it is `Other`
+    /// if there was one before, and then the file is left unchanged.
     pub fn write<W: Write>(&mut self, alloc: Global, file: &mut W) -> io::Result<()>
         ensures written { OnOk result (IsWritten self.old self.new
             × Appends (W.contents file.old) (W.contents file.new) (string_bytes self.old.waiting)) }

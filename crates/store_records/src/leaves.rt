@@ -1,12 +1,12 @@
-//! Which requests may leave records.
+//! The requests that may leave records.
 ghost use Rattle.std.specs.Prelude.{◌≡◌};
 ghost use Rattle.store_records.specs.Leaves.{may_leave};
 ghost use Rattle.store_records.specs.Leaves as leaves;
 
 use pad_core::{Act, Request};
 
-/// Whether a request may leave records, judged by the request alone. If it may not, `records_of` is empty whatever the
-/// answer.
+/// Returns true if a request may leave records, judged by the request alone. If it may not, `records_of` is empty
+/// whatever the answer.
 pub fn leaves_records(request: &Request) -> bool
     ensures { result ≡ may_leave request.now }
 {

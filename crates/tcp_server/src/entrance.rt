@@ -1,4 +1,4 @@
-//! Where a standby accepts connections, until another thread says that it takes no more copies.
+//! The entrance of a standby: it accepts connections until another thread says that no more copies are taken.
 use log::warn;
 use mio::net::TcpListener;
 use mio::{Events, Interest, Poll, Token, Waker};
@@ -31,7 +31,7 @@ pub struct StandbyEntrance {
 }
 
 impl StandbyEntrance {
-    /// An entrance with a listener that is bound, and the waker that wakes who waits for a connection.
+    /// An entrance with a listener that is bound, and the waker that wakes the thread waiting for a connection.
     pub fn new<R: Net>(
         rt: &R,
         alloc: Global,

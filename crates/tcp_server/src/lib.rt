@@ -1,7 +1,7 @@
 //! The server over TCP: its pads, its threads, and the clients and browsers that connect, until it ends.
 //!
-//! It depends on `event_loop` for the workers, on `store_files` for the store, on `peering` for the rounds with peers and on
-//! `accounts_file` for who may log in. It knows no command line: `Settings` says what is asked for.
+//! It depends on `event_loop` for the workers, on `store_files` for the store, on `peering` for the rounds with peers
+//! and on `accounts_file` for the accounts. It knows no command line: `Settings` says what is asked for.
 #![tactic(auto)]
 
 mod entrance;

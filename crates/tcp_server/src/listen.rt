@@ -71,7 +71,7 @@ where
     }
 }
 
-/// Serves connections with what is open, and returns whether the workers have stopped.
+/// Serves connections with the opened pads, and returns true if the workers have stopped.
 fn serve_opened<'a, R>(
     rt: &R,
     opened: &Opened,
@@ -115,7 +115,7 @@ where
     Ok(hub.has_stopped())
 }
 
-/// What a site lends to the workers.
+/// The parts of a site that are lent to the workers.
 #[derive(Drop)]
 struct SiteParts {
     pages: Vec<Page>,
@@ -124,7 +124,7 @@ struct SiteParts {
     proxies: Vec<u128>,
 }
 
-/// What the site of a server is made of: its pages with that of its numbers, and what the settings say.
+/// The parts of the site of a server: its pages with that of its numbers, and the values from the settings.
 fn site_parts(
     alloc: Global,
     asked: Settings<'_>,
@@ -143,7 +143,7 @@ fn site_parts(
     })
 }
 
-/// How the proxies of these parts name users, if the settings say how.
+/// The field in which the proxies of these parts name users, if the settings give one.
 fn users_in<'a>(parts: &'a SiteParts) -> Option<UserHeader<'a>> {
     let name = parts.user_header.as_ref()?;
     Some(users_of(name.as_str(), parts.proxies.as_slice()))
@@ -233,7 +233,7 @@ fn origins_of(alloc: Global, asked: Settings<'_>) -> Result<Vec<String>, AllocEr
     Ok(origins)
 }
 
-/// The threads that serve no connection, before they start, and what ends them.
+/// The threads that serve no connection, before they start, and the means to end them.
 #[derive(Drop)]
 struct Others<'a, 'b, 'e, R> {
     groups: Vec<Group<'a, R>>,

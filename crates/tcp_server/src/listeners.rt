@@ -1,16 +1,16 @@
-//! Where clients and operators connect.
+//! The listeners to which clients and operators connect.
 use crate::serving_error::ServingError;
 use crate::settings::Settings;
 use accounts_file::has_port;
 use std::io;
 use std::net::{Net, TcpListener, TcpStream};
 
-/// Where clients connect, those that speak lines and browsers, and operators.
+/// The listeners for clients, those that speak lines and browsers, and for operators.
 #[derive(Drop)]
 pub struct Listeners {
     pub lines: TcpListener,
     pub web: Option<TcpListener>,
-    /// Where operators ask for the status.
+    /// The listener for operators who ask for the status.
     pub status: Option<TcpListener>,
 }
 

@@ -6,7 +6,7 @@ use std::alloc::{AllocError, Global};
 use std::str;
 use web_wire::Page;
 
-/// The pages of a server, and behind them the one at `/earlier-numbers`. Its texts live as long as the program.
+/// The pages of a server, and after them the one at `/earlier-numbers`. Its texts live as long as the program.
 pub fn with_numbers(alloc: Global, pages: &[Page], numbers: &[u16]) -> Result<Vec<Page>, AllocError>
     ensures { IfOk result (λ all. (page : Page) × (all.items ≡ pages.now ++ page ∷ [])) }
 {

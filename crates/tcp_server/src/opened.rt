@@ -1,4 +1,4 @@
-//! What a server has open before it serves anyone.
+//! The pads, the store and the accounts that a server opens before it serves anyone.
 ghost use Rattle.std.specs.Prelude.{◌≤◌};
 ghost use Rattle.server_core.specs.declared.limits.TheConstants.{MAX_CELLS};
 
@@ -29,7 +29,7 @@ pub struct Opened {
     pub numbers: Vec<u16>,
     pub keeper: Option<Keeper>,
     pub accounts: Accounts,
-    /// What the threads that exchange with peers share, and the means to stop them.
+    /// The state that the threads that exchange with peers share, and the means to stop them.
     pub exchange: Exchange,
     pub stop: Stop,
     /// Rung when the server ends.
@@ -45,7 +45,7 @@ impl Opened {
             .find(|peer| peer.number == number)
     }
 
-    /// How many pads there are.
+    /// Returns the number of pads.
     pub fn named_pads<R: AllocGlobal + Wait>(&self, rt: &R) -> Result<u64, Refusal> {
         let mut pads = 0u64;
         for cell in &self.cells {
@@ -56,7 +56,7 @@ impl Opened {
         Ok(pads)
     }
 
-    /// Whether the server ends because the standby did not answer.
+    /// Returns true if the server ends because the standby did not answer.
     pub fn has_lost_standby(&self) -> bool {
         match &self.keeper {
             Some(keeper) => keeper.has_lost_standby(),
@@ -64,7 +64,7 @@ impl Opened {
         }
     }
 
-    /// Whether the store has failed, if there is one.
+    /// Returns true if there is a store and it has failed.
     pub fn has_failed(&self) -> bool {
         match &self.keeper {
             Some(keeper) => keeper.has_failed(),
@@ -121,7 +121,7 @@ where
     Ok((opened, bytes))
 }
 
-// What a server with this row has open.
+// Makes the `Opened` of a server with this row.
 fn open_row_of<R: AllocGlobal + Wait>(
     rt: &R,
     cells: Vec<SharedPad<BlockSeq>>,
@@ -144,7 +144,7 @@ fn open_row_of<R: AllocGlobal + Wait>(
     })
 }
 
-// What the threads of a server share beside its pads.
+// The state that the threads of a server share besides its pads.
 #[derive(Drop)]
 struct SharedParts {
     names: Names,
@@ -153,7 +153,7 @@ struct SharedParts {
     end: Bell,
 }
 
-// What the threads of a server with these pads and so many peers share beside the pads.
+// The state that the threads of a server with these pads and this number of peers share besides the pads.
 fn shared_parts<R: AllocGlobal + Wait>(
     rt: &R,
     cells: &[SharedPad<BlockSeq>],

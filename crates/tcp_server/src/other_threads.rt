@@ -54,7 +54,7 @@ where
     }
 }
 
-/// Starts the threads that send to the standby and tell the workers what it has. Returns whether they run.
+/// Starts the threads that send to the standby and tell the workers how much it has. Returns true if they run.
 pub fn start_sending<'s, E, R>(
     scope: &Scope<'s, E>,
     rt: &'s R,
@@ -121,7 +121,7 @@ where
     }
 }
 
-/// What ends these threads.
+/// The means to end these threads.
 #[derive(Clone, Copy)]
 pub struct Ends<'a, 'e> {
     pub exchange: &'a Exchange,
@@ -144,8 +144,8 @@ impl Ends<'_, '_> {
         self.end_help(rt);
     }
 
-    /// Ends all of them behind the last connection. So many exchange with peers, and do so once more, and the standby gets
-    /// one more round, unless the workers have stopped.
+    /// Ends all of them after the last connection. `threads` of them exchange with peers, and do so once more, and the
+    /// standby gets one more round, unless the workers have stopped.
     pub fn end<R: Wait + Clock>(&self, rt: &R, hub: &Hub, threads: u64) {
         self.bell.ring_last(rt);
         if hub.has_stopped() {

@@ -1,4 +1,4 @@
-//! The gate of the pads: what else the server does with each answer.
+//! The gate of the pads: the further steps of the server for each answer.
 ghost use Rattle.std.specs.Prelude.{◌≡◌, ◌≢◌, ◌⊎◌, ⊤, is_some, Ok, None, IfErr, OnOk};
 ghost use Rattle.shared_pads.specs.Gates.{IsLet};
 ghost use Rattle.store_files.specs.Noting.{IsKept};

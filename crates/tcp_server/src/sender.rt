@@ -1,4 +1,4 @@
-//! What is sent to a standby, and to whom.
+//! The copies sent to a standby, and the peer that gets them.
 use crate::opened::Opened;
 use crate::settings::Settings;
 use event_loop::Hub;
@@ -13,18 +13,18 @@ use std::sync::Wait;
 use std::time::Clock;
 use store_files::{Keeper, KeptFiles};
 
-/// What is sent to the standby, and to whom.
+/// The copies sent to the standby, and the peer that gets them.
 #[derive(Drop)]
 pub struct Sender<'a> {
     pub keeper: &'a Keeper,
     peer: &'a Peer,
     own: u16,
-    /// What replies wait for.
+    /// The condition that replies wait for.
     confirm: Confirm,
     pub end: SendingEnd,
 }
 
-/// What is sent to the standby of the settings; None: there is none, or no store.
+/// The sender to the standby of the settings; None: there is none, or no store.
 pub fn sender_of<'a>(opened: &'a Opened, asked: Settings<'_>) -> Option<Sender<'a>> {
     let standby = asked.standby?;
     Some(Sender {
@@ -37,12 +37,13 @@ pub fn sender_of<'a>(opened: &'a Opened, asked: Settings<'_>) -> Option<Sender<'
 }
 
 impl Sender<'_> {
-    /// Whether nobody is to be served before the standby has everything.
+    /// Returns true if nobody is to be served before the standby has everything.
     pub fn is_strict(&self) -> bool {
         self.confirm == Confirm::Strict
     }
 
-    /// Waits until the standby has everything, where nobody is to be served before. Returns whether the server may serve.
+    /// Waits until the standby has everything, where nobody is to be served before. Returns true if the server may
+    /// serve.
     pub fn wait<R: Wait + Clock + Eprint>(&self, rt: &R) -> bool {
         if self.is_strict() {
             let number = self.peer.number;

@@ -1,4 +1,4 @@
-//! Why a server over TCP does not start, or ends early.
+//! The reason why a server over TCP does not start, or ends early.
 use accounts_file::AccountsFileError;
 use pad_model::Refusal;
 use std::alloc::AllocError;
@@ -6,7 +6,7 @@ use std::io;
 use store_files::StoreError;
 use thiserror::Error;
 
-/// Why a server over TCP does not start, or ends early.
+/// The reason why a server over TCP does not start, or ends early.
 #[derive(Clone, Copy, Debug, Error)]
 pub enum ServingError<'a> {
     /// The accounts file is refused.

@@ -6,7 +6,7 @@ use group_commit::Confirm;
 pub struct StandbyPeer {
     /// Its number in the accounts file.
     pub number: u16,
-    /// What replies wait for.
+    /// The condition that replies wait for.
     pub confirm: Confirm,
 }
 
@@ -29,13 +29,14 @@ pub struct Settings<'a> {
     pub clients_per_address: Option<u32>,
     /// The seconds of silence after which a connection is closed. None: never.
     pub idle: Option<u32>,
-    /// Whether each log-in is logged.
+    /// True if each log-in is logged.
     pub logs_access: bool,
-    /// The directory where pads are kept. None: they are lost when the server ends.
+    /// The directory in which pads are kept. None: they are lost when the server ends.
     pub store: Option<&'a str>,
-    /// The number of the peer that has a copy of the store, and what replies wait for. None: no peer has one.
+    /// The number of the peer that has a copy of the store, and the condition that replies wait for. None: no peer has
+    /// one.
     pub standby: Option<StandbyPeer>,
-    /// Whether no server has used the replica number before, so that the store may be one of another number.
+    /// True if no server has used the replica number before, so that the store may be one of another number.
     pub new_replica: bool,
     /// The address where the page for browsers is served.
     pub web: Option<&'a str>,
@@ -45,7 +46,7 @@ pub struct Settings<'a> {
     pub user_header: Option<&'a str>,
     /// The addresses of the proxies from which that field is taken, separated by commas. None: 127.0.0.1 alone.
     pub trusted_proxies: Option<&'a str>,
-    /// Whether any user whom a proxy names is an author, also one who has no line in the accounts file.
+    /// True if any user whom a proxy names is an author, even one who has no line in the accounts file.
     pub any_user: bool,
     /// The address where operators ask for the status.
     pub status: Option<&'a str>,

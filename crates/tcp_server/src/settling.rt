@@ -1,4 +1,4 @@
-//! What the workers' replies wait for.
+//! The condition that the workers' replies wait for.
 ghost use Rattle.std.specs.Prelude.{◌≡◌, ◌≢◌, true, IfOk, IfSome, MatchOption};
 ghost use Rattle.group_commit.specs.Confirmations.{is_unasked};
 ghost use Rattle.store_files.specs.Settling.{IsSaidOf};
@@ -10,8 +10,8 @@ use std::time::Clock;
 use store_files::{Keeper, Promised};
 use web_wire::Machines;
 
-/// What the workers' replies wait for, if there is a store: its sync, and the standby's confirmation where that was
-/// promised.
+/// The condition that the workers' replies wait for, if there is a store: its sync, and the standby's confirmation
+/// where that was promised.
 #[derive(Drop)]
 pub struct Settling<'a, R> {
     rt: &'a R,

@@ -21,7 +21,7 @@ use store_files::{Owner, StandbyStore};
 /// The seconds that a read of the greeting takes at most. There are five of them.
 const GREETING: u64 = 1;
 
-/// The seconds that a read of the first request behind it takes at most. There are five of them, too.
+/// The seconds that a read of the first request after it takes at most. There are five of them, too.
 const FIRST_REQUEST: u64 = 5;
 
 /// The seconds of silence after which a main server counts as gone. It sends something each second.
@@ -85,7 +85,7 @@ where
     }
 }
 
-// Why no more copies are taken.
+// The reason why no more copies are taken.
 #[derive(Drop)]
 enum CopyingEnd {
     Promoted,

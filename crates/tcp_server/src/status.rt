@@ -18,7 +18,7 @@ use std::{io, net};
 /// The most bytes of a request's head.
 const LONGEST_HEAD: usize = 4_096;
 
-/// How many bytes one read takes.
+/// The number of bytes that one read takes.
 const CHUNK: usize = 1_024;
 
 /// The milliseconds in which a request has to be whole, and in which a response has to be taken.
@@ -33,7 +33,7 @@ const LISTENER: Token = Token(1);
 
 const VISITOR: Token = Token(2);
 
-/// What the thread that answers for the status owns.
+/// The state of the thread that answers for the status.
 #[derive(Drop)]
 pub struct StatusDoor {
     poll: Poll,
@@ -41,7 +41,7 @@ pub struct StatusDoor {
     listener: TcpListener,
 }
 
-/// What ends that thread.
+/// The means to end that thread.
 #[derive(Drop)]
 pub struct StatusEnd {
     waker: Waker,
@@ -92,7 +92,7 @@ pub fn answer_status<R: AllocGlobal + Clock + Wait + Eprint>(
     hub: &Hub,
     board: &StatusBoard<'_>,
 ) {
-    // Whether it was logged that the system refuses connections, since it last gave one.
+    // True if it was logged that the system refuses connections, since it last gave one.
     let mut is_refused = false;
     for _ in rt.forever() {
         if end.is_over() {
@@ -101,7 +101,7 @@ pub fn answer_status<R: AllocGlobal + Clock + Wait + Eprint>(
         match door.listener.accept() {
             Ok((stream, _from)) => {
                 is_refused = false;
-                // Whoever is too slow or breaks off gets no answer, and nobody is told.
+                // Whoever is too slow or breaks off gets no answer, and nothing is logged.
                 let _served = door.serve(rt, end, hub, board, stream);
             }
             Err(cause) => match cause.kind() {
@@ -120,7 +120,8 @@ pub fn answer_status<R: AllocGlobal + Clock + Wait + Eprint>(
 }
 
 impl StatusDoor {
-    // Waits until something has happened, at most so many milliseconds. A failure is found by the next call that needs it.
+    // Waits until something has happened, for at most `most` milliseconds. A failure is found by the next call that
+    // needs it.
     fn wait(&mut self, most: Option<u64>) {
         let _failed = self
             .poll
@@ -202,7 +203,7 @@ impl StatusDoor {
     }
 }
 
-// How many milliseconds are left of one's patience since then. It fails if none is left, or if the server ends.
+// The milliseconds of `PATIENCE` that are left since then. It fails if none is left, or if the server ends.
 fn left_of<C: Clock>(clock: &C, end: &StatusEnd, began: Instant) -> io::Result<u64> {
     let passed = Instant::now(clock)?.saturating_duration_since(began);
     let passed = passed

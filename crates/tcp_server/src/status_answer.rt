@@ -87,7 +87,7 @@ fn page_response<R: AllocGlobal + Clock + Wait>(
     }
 }
 
-// On how many machines what is answered now is kept, and how far the standby is.
+// The number of machines that keep the answers given now, and the progress of the standby.
 fn kept_of<R: AllocGlobal + Wait>(rt: &R, board: &StatusBoard<'_>) -> Result<String, AllocError> {
     let alloc = rt.alloc();
     let Some(keeper) = board.keeper() else {

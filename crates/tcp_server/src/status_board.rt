@@ -1,4 +1,4 @@
-//! What is told of a server at the address of its status.
+//! The status of a server, as reported at the address of its status.
 use event_loop::Hub;
 use server_counts::{Build, ClientNumbers, Numbers};
 use std::alloc::{AllocError, Global};
@@ -14,20 +14,20 @@ const PAGE_BYTES: u64 = 4_096;
 /// The file in which the system says how much memory the process has. Its second word are the pages in RAM.
 const MEMORY: &str = "/proc/self/statm";
 
-/// What the status is made of, besides the hub.
+/// The sources of the status, besides the hub.
 #[derive(Drop)]
 pub struct StatusBoard<'a> {
     // Reads how much memory the process has.
     files: HostRuntime,
     build: Build<'a>,
     keeper: Option<&'a Keeper>,
-    // Whether nobody is served yet, because the standby lacks something.
+    // True if nobody is served yet, because the standby lacks something.
     waits: AtomicBool,
-    // Whether the server ends.
+    // True if the server ends.
     is_ending: AtomicBool,
 }
 
-/// Whether a server serves.
+/// The health of a server: it serves, or the reason why it does not.
 #[derive(Clone, Copy, PartialEq, Eq)]
 pub enum Health {
     Serves,
@@ -81,7 +81,7 @@ impl<'a> StatusBoard<'a> {
         self.is_ending.store(true, Ordering::SeqCst);
     }
 
-    /// Whether the server serves now.
+    /// The health of the server now.
     pub fn health(&self, hub: &Hub) -> Health {
         if self.keeper.is_some_and(Keeper::has_lost_standby) {
             Health::StandbyLost

@@ -4,7 +4,7 @@ use crate::status::{StatusDoor, StatusEnd, set_up_status};
 use crate::status_board::StatusBoard;
 use std::net::{Net, TcpListener};
 
-/// What is told of the server, and the thread that tells it, if the settings have an address for it.
+/// The status of the server, and the thread that reports it, if the settings have an address for it.
 #[derive(Drop)]
 pub struct StatusThread<'a, 'e> {
     pub board: &'a StatusBoard<'a>,

@@ -17,16 +17,16 @@ use std::{fs, io};
 /// The seconds between two checks of the file.
 const LOOK: u64 = 5;
 
-/// An accounts file, and what it contained when it was last checked.
+/// An accounts file, and its contents when it was last checked.
 #[derive(Drop)]
 pub struct Watch<'a> {
     /// Reads the file.
     files: HostRuntime,
     path: &'a str,
     bytes: Vec<u8>,
-    /// Whether any user of a proxy is an author.
+    /// True if any user of a proxy is an author.
     any_user: bool,
-    /// Whether it could not be read at the last check.
+    /// True if it could not be read at the last check.
     is_unread: bool,
 }
 

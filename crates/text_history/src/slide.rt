@@ -97,7 +97,7 @@ impl Slide {
         self.len as u64
     }
 
-    /// Whether they were shown by an insertion, or else hidden by a deletion.
+    /// Returns true if an insertion showed them, and false if a deletion hid them.
     pub fn shows(&self) -> bool
         ensures { result ≡ self.now.shows }
     {

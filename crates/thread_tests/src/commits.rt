@@ -1,4 +1,4 @@
-//! Threads that note what is to be kept and wait for it: what a thread noted before is then in its file, and synced.
+//! Threads that note records and wait for them: the earlier notes of a thread are then in its file, and synced.
 ghost use Rattle.std.specs.Prelude.{◌≡◌, IfOk, None};
 
 use group_commit::{Commit, Commits, Committed, Device, Note, Notes, Uncommitted, append};
@@ -87,7 +87,7 @@ impl MemoryFiles {
         })
     }
 
-    // How many synced lines of a cell name an author.
+    // The number of synced lines of a cell that name an author.
     fn synced_of<R: Wait>(&self, rt: &R, cell: u32, author: &str) -> Result<usize, AllocError> {
         let Some(file) = self.files.get(cell as usize) else {
             return Ok(0);
@@ -105,7 +105,7 @@ impl MemoryFiles {
         Ok(found)
     }
 
-    // How many syncs there were of all files.
+    // The number of syncs of all files.
     fn syncs<R: Wait>(&self, rt: &R) -> u64 {
         let mut sum = 0u64;
         for file in &self.files {

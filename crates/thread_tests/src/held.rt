@@ -54,7 +54,7 @@ impl Signal {
         self.was_missed.store(true, Ordering::SeqCst);
     }
 
-    // Whether the event came and nobody gave up.
+    // Returns true if the event came and nobody gave up.
     fn was_met(&self) -> bool {
         self.has_come() && !self.was_missed.load(Ordering::SeqCst)
     }
@@ -255,7 +255,7 @@ impl Connection for Greeter {
     }
 }
 
-// Whether the seats of two threads close their pad.
+// Returns true if the seats of two threads close their pad.
 fn is_closed(
     alloc: Global,
     cells: Vec<SharedPad<BlockSeq>>,

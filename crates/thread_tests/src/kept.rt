@@ -14,7 +14,7 @@ use std::process::Abort;
 use std::sync::atomic::{AtomicBool, Ordering};
 use std::test::Fail;
 
-// A disk that keeps what is answered, or nothing.
+// A disk that keeps the answers, or nothing.
 #[derive(Drop)]
 struct Disk {
     has_room: AtomicBool,

@@ -129,7 +129,7 @@ fn asked<P: Pads>(
     ask(alloc, pads, line.as_str())
 }
 
-// Whether an answer is this refusal.
+// Returns true if an answer is this refusal.
 fn is_refused(answer: Result<Reply, Refusal>, wanted: Refusal) -> bool {
     match answer {
         Ok(_) => false,
@@ -137,7 +137,7 @@ fn is_refused(answer: Result<Reply, Refusal>, wanted: Refusal) -> bool {
     }
 }
 
-// Whether there is a pad with this number, found in one step.
+// Returns true if there is a pad with this number, found in one step.
 fn is_found<P: Pads>(alloc: Global, pads: &mut P, gate: &Steps, number: u32) -> bool {
     gate.take();
     let answer = asked(alloc, pads, "join", number);
@@ -145,7 +145,7 @@ fn is_found<P: Pads>(alloc: Global, pads: &mut P, gate: &Steps, number: u32) -> 
     answer.is_ok() && steps == 1 && asked(alloc, pads, "leave", number).is_ok()
 }
 
-// Whether there is no pad with this number, found out without a step.
+// Returns true if there is no pad with this number, found out without a step.
 fn is_missing<P: Pads>(alloc: Global, pads: &mut P, gate: &Steps, number: u32) -> bool {
     gate.take();
     let answer = asked(alloc, pads, "join", number);

@@ -21,7 +21,7 @@ const BEGINNING: [&str; 3] = [
     r#"{"do":"create","pad":"two"}"#,
 ];
 
-// Whether a cell has this name, or no name.
+// Returns true if a cell has this name, or no name.
 fn is_named<P: Pads>(
     alloc: Global,
     pads: &mut P,

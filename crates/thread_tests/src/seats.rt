@@ -65,7 +65,7 @@ fn are_visits(who: &Items<Present>, visits: [u64; 2]) -> bool {
     }
 }
 
-// Whether these visits are present, and no others.
+// Returns true if these visits are present, and no others.
 fn has_visits<R: Wait>(
     rt: &R,
     alloc: Global,
@@ -96,7 +96,7 @@ fn leave<R: Wait>(
     }
 }
 
-// Whether the pad has this name.
+// Returns true if the pad has this name.
 fn is_named<R: Wait>(rt: &R, alloc: Global, shared: &SharedPad<BlockSeq>, name: &str) -> bool {
     match shared.name(rt, alloc) {
         Ok(Some(found)) => found.is(name),

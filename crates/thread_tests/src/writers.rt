@@ -163,7 +163,7 @@ fn letter_of(run: &AuthorRun) -> Option<char> {
     }
 }
 
-// Whether the characters of each run are its author's letter, and there are no others.
+// Returns true if the characters of each run are its author's letter, and there are no others.
 fn are_own(text: &Text, runs: &[AuthorRun]) -> bool {
     let mut characters = text.as_slice().iter();
     for run in runs {
@@ -190,7 +190,7 @@ fn runs_of<P: Pads>(alloc: Global, pads: &mut P) -> Result<pad_model::Items<Auth
     }
 }
 
-// Whether the text has each author's letter as often as it was written, and reports each as its author's own.
+// Returns true if the text has each author's letter as often as it was written, and reports each as its author's own.
 fn is_whole<P: Pads>(alloc: Global, pads: &mut P) -> Result<bool, Refusal> {
     let text = text_of(alloc, pads)?;
     let runs = runs_of(alloc, pads)?;
@@ -230,7 +230,7 @@ fn calls_of(seats: &[Seat]) -> u64 {
     calls
 }
 
-// Whether the seats close their pad with the answers, as an audit of its log finds.
+// Returns true if the seats close their pad with the answers, as an audit of its log finds.
 fn is_closed(
     alloc: Global,
     cells: Vec<SharedPad<BlockSeq>>,

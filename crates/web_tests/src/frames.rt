@@ -1,11 +1,12 @@
-//! What messages lead to, whatever pieces their bytes arrive in.
+//! The lines and replies that messages lead to, whatever pieces their bytes arrive in.
 use crate::sent::frames;
 use std::alloc::{AllocError, Global};
 use std::process::Abort;
 use std::test::Fail;
 use web_wire::{Frames, NextMessage, put_message};
 
-// Feeds the bytes in pieces, and returns the lines and what is sent. A line `!` means that the socket is to be closed.
+// Feeds the bytes in pieces, and returns the lines and the bytes sent. A line `!` means that the socket is to be
+// closed.
 fn talk(alloc: Global, bytes: &[u8], piece: usize) -> Result<(Vec<u8>, Vec<u8>), AllocError> {
     let mut socket = Frames::new(alloc, Vec::new(alloc));
     let mut lines = Vec::new(alloc);

@@ -18,7 +18,7 @@ const PARTS: &[&str] = &[
     "cross-origin-resource-policy: same-origin\r\n",
 ];
 
-// Whether one text contains the other.
+// Returns true if one text contains the other.
 fn has(bytes: &[u8], part: &str) -> bool {
     match str::from_utf8(bytes) {
         Ok(text) => text.contains(part),

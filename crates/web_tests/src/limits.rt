@@ -11,7 +11,7 @@ fn text(alloc: Global, length: usize) -> Result<Vec<u8>, AllocError> {
     Ok(bytes)
 }
 
-// What a message in fragments of these lengths leads to: the turn, the length of its line, and what is sent.
+// Returns the result of a message in fragments of these lengths: the turn, the length of its line, and the bytes sent.
 fn parts(alloc: Global, lengths: &[usize]) -> Result<(NextMessage, usize, Vec<u8>), AllocError> {
     let mut socket = Frames::new(alloc, Vec::new(alloc));
     let mut line = Vec::new(alloc);

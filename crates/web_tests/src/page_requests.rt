@@ -21,7 +21,7 @@ const PAGES: &[Page] = &[
     },
 ];
 
-// Asks in pieces, and returns what comes next and what is to be sent.
+// Asks in pieces, and returns the next step and the bytes to be sent.
 fn ask(
     alloc: Global,
     origins: &[String],
@@ -48,7 +48,7 @@ fn ask(
     Ok((next, sent))
 }
 
-// Whether one text contains the other.
+// Returns true if one text contains the other.
 fn has(bytes: &[u8], part: &str) -> bool {
     match str::from_utf8(bytes) {
         Ok(text) => text.contains(part),
@@ -357,7 +357,7 @@ fn fields_are_limited(rt: HostRuntime) -> Result<(), Fail> {
     Ok(())
 }
 
-// What follows a handshake is left for the socket.
+// The bytes after a handshake are left for the socket.
 #[test]
 fn frames_behind_a_handshake(rt: HostRuntime) -> Result<(), Fail> {
     let site = Site {

@@ -1,4 +1,4 @@
-//! Who a request's user is, as the proxy in front says it, and what the answer is.
+//! The user of a request, as the proxy in front names it, and the answer.
 use std::alloc::{AllocError, Global};
 use std::net::IpAddr;
 use std::process::Abort;
@@ -145,7 +145,7 @@ fn nobody_asks_by_another_method(rt: HostRuntime) -> Result<(), Fail> {
     Ok(())
 }
 
-// Whether one text ends with the other.
+// Returns true if one text ends with the other.
 fn ends(bytes: &[u8], part: &str) -> bool {
     bytes.ends_with(part.as_bytes())
 }

@@ -6,7 +6,7 @@ ghost use Rattle.web_wire.specs.Fields.{is_single};
 
 use httparse::spans::HeaderSpan;
 
-/// Whether two texts are equal up to the case of letters.
+/// Returns true if two texts are equal up to the case of letters.
 pub(crate) fn is_same(a: &[u8], b: &[u8]) -> bool
     ensures { result ≡ eq_ignore_case a.now b.now }
 {
@@ -27,7 +27,7 @@ pub(crate) fn field<'b>(input: &'b [u8], fields: &[HeaderSpan], name: &[u8]) -> 
     None
 }
 
-/// Whether at most one field has a name.
+/// Returns true if at most one field has the name.
 pub(crate) fn is_single(input: &[u8], fields: &[HeaderSpan], name: &[u8]) -> bool
     requires { All (IsHeaderWithin (length input.now)) fields.now }
     ensures { result ≡ is_single (fields_of input.now fields.now) name.now }

@@ -16,8 +16,8 @@ const KEPT: usize = 131_072;
 // The capacity that is kept while nothing arrives, so that a short message needs no allocation.
 const KEPT_IDLE: usize = 1_024;
 
-/// Bytes that wait, behind some that were used. The used ones are dropped once they are half of those held: so at most as
-/// many bytes are moved as arrive, and no more are held than twice those that wait.
+/// Bytes that wait, after some that were used. The used ones are dropped once they are half of those held: so at most
+/// as many bytes are moved as arrive, and no more are held than twice those that wait.
 #[derive(Drop)]
 pub(crate) struct FrameBytes {
     held: Vec<u8>,
@@ -59,7 +59,7 @@ impl FrameBytes {
         self.held.len() - self.used
     }
 
-    /// Whether no bytes wait.
+    /// Returns true if no bytes wait.
     pub(crate) fn is_empty(&self) -> bool
         ensures { result ≡ nat_eq 0 (length self.now.waiting) }
     {

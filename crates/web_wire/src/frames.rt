@@ -18,7 +18,7 @@ pub const LONGEST_MESSAGE: usize = 8_388_608;
 // The most bytes of a pong or a close frame.
 const LONGEST_REPLY: usize = 139;
 
-/// What comes next.
+/// The next step of the connection.
 #[derive(Clone, Copy, Debug, PartialEq, Eq)]
 pub enum NextMessage {
     /// No complete message waits: more bytes are needed.
@@ -140,7 +140,7 @@ impl Frames {
         self.bytes.len()
     }
 
-    /// Whether no bytes wait.
+    /// Returns true if no bytes wait.
     pub fn is_empty(&self) -> bool
         ensures { result ≡ nat_eq 0 (length self.now.waiting) }
     {

@@ -7,11 +7,11 @@ use crate::heard::{Heard, hear};
 use websocket::error::Error;
 use websocket::protocol::{FrameStatus, NoMask, WebSocketContext};
 
-/// What is at the front of the bytes.
+/// The state of the front of the bytes.
 pub(crate) enum Front {
     /// No complete frame.
     Cut,
-    /// A frame of this many bytes, and what it means to a server of lines.
+    /// A frame of this many bytes, and its meaning to a server of lines.
     Whole(usize, Heard),
 }
 

@@ -1,4 +1,4 @@
-//! What a message means to a server of lines.
+//! The meaning of a message to a server of lines.
 ghost use Rattle.std.specs.Prelude.{◌≡◌, ◌≢◌, ◌++◌, true, option_map, Ok, Some, IfOk, IfSome, OnOk, OnErr};
 ghost use Rattle.websocket.specs.Content.{IsPayloadInside, IsReceivedInside, payload_bytes, received_content, text};
 ghost use Rattle.web_wire.specs.Messages.{heard_of, is_line, text_of, with_feed};
@@ -6,7 +6,7 @@ ghost use Rattle.web_wire.specs.Messages.{heard_of, is_line, text_of, with_feed}
 use std::alloc::AllocError;
 use websocket::protocol::{CloseCode, Payload, Received};
 
-/// What a message means to a server of lines.
+/// The meaning of a message to a server of lines.
 #[derive(Clone, Copy)]
 pub(crate) enum Heard {
     /// No line: a fragment of a message, a ping or a pong.
@@ -19,7 +19,7 @@ pub(crate) enum Heard {
     Refused(CloseCode),
 }
 
-/// Returns what a message means, and appends its line with a line feed. `input` is as the read left it.
+/// Returns the meaning of a message, and appends its line with a line feed. `input` is as the read left it.
 pub(crate) fn hear(
     message: &Option<Received>,
     input: &[u8],
@@ -62,7 +62,7 @@ fn hear_text(payload: &Payload, input: &[u8], line: &mut Vec<u8>) -> Result<Hear
     Ok(Heard::Line)
 }
 
-// Whether a text is one line.
+// Returns true if a text is one line.
 fn is_line(text: &[u8]) -> bool
     ensures { result ≡ is_line text.now }
 {

@@ -1,4 +1,4 @@
-//! What is served: the files of the page, which pages may open the socket, and which proxies name users.
+//! A site: the files of the page, the pages that may open the socket, and the proxies that name users.
 
 /// A file that is served. Its texts are compiled into the program.
 #[derive(Clone, Copy, Debug, PartialEq, Eq)]
@@ -7,25 +7,25 @@ pub struct Page {
     pub path: &'static str,
     /// The content type.
     pub kind: &'static str,
-    /// What a browser may do with a copy, as `cache-control` says it: `no-cache` or `no-store`.
+    /// The value of `cache-control`: `no-cache` or `no-store`. It says what a browser may do with a copy.
     pub cache: &'static str,
     /// The entity tag, which changes with the text, in quotation marks.
     pub tag: &'static str,
     pub text: &'static str,
 }
 
-/// What is served.
+/// The pages that are served, and the origins and proxies that are trusted.
 #[derive(Clone, Copy)]
 pub struct Site<'a> {
     pub pages: &'a [Page],
     /// The origins, beside the server's own, whose pages may open the socket. Each is a scheme and a host, as browsers
     /// name them: `https://pads.example`.
     pub origins: &'a [String],
-    /// How requests name their user. None: they name none.
+    /// The header by which requests name their user. None: they name none.
     pub users: Option<UserHeader<'a>>,
 }
 
-/// How a proxy that people log in to names the user of a request.
+/// The header by which a proxy that people log in to names the user of a request.
 #[derive(Clone, Copy)]
 pub struct UserHeader<'a> {
     /// The name of the field; the case of its letters does not matter.

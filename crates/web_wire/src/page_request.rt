@@ -26,7 +26,7 @@ pub const LONGEST_HEAD: usize = 8_192;
 // The most fields of a head.
 const MOST_FIELDS: usize = 64;
 
-/// What comes next.
+/// The next step of the connection.
 #[derive(Clone, Copy, Debug, PartialEq, Eq)]
 pub enum Next {
     /// More bytes are needed.
@@ -142,8 +142,8 @@ impl PageRequest {
         self.settle(before, put, Next::Close(200))
     }
 
-    /// Refuses the request because its user is no author, and says why: the words stand behind the user's name. The refusal
-    /// stands in place of any response to it. If memory runs out, there is none.
+    /// Refuses the request because its user is not an author, and gives the reason: its words follow the user's name.
+    /// The refusal replaces any response to it. If memory runs out, there is none.
     pub fn refuse_user(&mut self, why: &[u8]) -> Result<Next, AllocError>
         ensures closes { IfOk result (λ next. (next ≡ Next.Close 403) ⊎ (next ≡ Next.Close 500)) }
         ensures told { IfRefused result (TellsStatus [] self.new.output) }
@@ -227,7 +227,7 @@ impl PageRequest {
         copied_user(alloc, site.users, self.input.as_slice(), fields)
     }
 
-    // How a request from this address is answered.
+    // Returns the plan for a request from this address.
     fn plan<'a>(
         &self,
         server: &Server,
@@ -340,7 +340,7 @@ impl PageRequest {
     }
 }
 
-// Whether a body has bytes, or may have some.
+// Returns true if a body has bytes, or may have some.
 fn has_bytes(size: BodySize) -> bool
     ensures { result ≡ has_bytes size }
 {

@@ -1,4 +1,4 @@
-//! How a request is answered.
+//! The plan for the answer to a request.
 ghost use Rattle.std.specs.Prelude.{◌≡◌, ◌≤◌, ◌∷◌, All, Contains, IfNone, IfSome, true, false, length, take, map, string_bytes};
 ghost use Rattle.std.specs.List.{position};
 ghost use Rattle.httparse.specs.Spans.{IsHeaderWithin, IsRequestWithin, span_bytes};
@@ -18,10 +18,10 @@ use websocket::handshake::server::check_request;
 // The path of the socket.
 const SOCKET: &[u8] = b"/socket";
 
-// The path of the question who the user is.
+// The path at which a client asks for its user.
 const ME: &[u8] = b"/me";
 
-/// How a request is answered.
+/// The answer that a request is to get.
 #[derive(Clone, Copy)]
 pub(crate) enum Plan<'a> {
     /// A page: whole, or only its head.
@@ -30,13 +30,13 @@ pub(crate) enum Plan<'a> {
     Unchanged(&'a Page),
     /// The socket, with the key that answers the client's.
     Socket([u8; 28]),
-    /// Who the user of the request is.
+    /// The user of the request.
     User,
     /// A refusal with this status: in words, or only its head.
     Refused(u16, bool),
 }
 
-/// How a request from this address is answered.
+/// Returns the plan for a request from this address.
 pub(crate) fn plan_of<'a>(
     input: &[u8],
     head: &RequestSpans,
@@ -85,7 +85,7 @@ pub(crate) fn plan_of<'a>(
     Plan::Page(page, whole)
 }
 
-// How a request for the socket is answered.
+// Returns the plan for a request for the socket.
 fn socket_plan(
     input: &[u8],
     head: &RequestSpans,
@@ -171,7 +171,7 @@ fn find_page<'a>(pages: &'a [Page], path: &[u8]) -> Option<&'a Page>
     None
 }
 
-// Whether a request names the tag of a page as that of its copy.
+// Returns true if a request names the tag of a page as that of its copy.
 fn has_copy(input: &[u8], fields: &[HeaderSpan], page: &Page) -> bool
     requires { All (IsHeaderWithin (length input.now)) fields.now }
     ensures { result ≡ has_copy (fields_of input.now fields.now) page.now }
@@ -182,14 +182,14 @@ fn has_copy(input: &[u8], fields: &[HeaderSpan], page: &Page) -> bool
     }
 }
 
-// Whether a list of tags names this one. A weak tag matches too, and so does an asterisk.
+// Returns true if a list of tags names this one. A weak tag matches too, and so does an asterisk.
 fn has_tag(tags: &[u8], tag: &[u8]) -> bool
     ensures { result ≡ names_tag tags.now tag.now }
 {
     tags.split(|byte| *byte == b',').any(|one| is_tag(one, tag))
 }
 
-// Whether a part of a list of tags is an asterisk, or this tag, which may be weak there.
+// Returns true if a part of a list of tags is an asterisk, or this tag, which may be weak there.
 fn is_tag(part: &[u8], tag: &[u8]) -> bool
     ensures { result ≡ is_tag part.now tag.now }
 {

@@ -197,7 +197,7 @@ pub(crate) fn put_unread(output: &mut Vec<u8>, status: u16) -> Result<(), WriteE
     Ok(output.extend_from_slice(words(status))?)
 }
 
-// What the words say before the user who is no author, and between it and the reason.
+// The words before the user who is not an author, and those between the user and the reason.
 const LOGGED_IN_AS: &[u8] = b"You have logged in as \"";
 
 const BUT: &[u8] = b"\", but ";
@@ -215,7 +215,7 @@ pub(crate) fn put_stranger(output: &mut Vec<u8>, user: &[u8], why: &[u8]) -> Res
     Ok(output.extend_from_slice(why)?)
 }
 
-// The fields of the response that says who the user is.
+// The fields of the response that names the user.
 fn user_fields() -> [Header<'static>; 5] {
     [
         Header {

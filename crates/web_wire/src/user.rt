@@ -1,4 +1,4 @@
-//! Who a request's user is, if a proxy that people log in to names one.
+//! The user of a request, if a proxy that people log in to names one.
 ghost use Rattle.std.specs.Prelude.{◌≡◌, ◌+◌, All, IfOk, length, option_map};
 ghost use Rattle.std.specs.Net.Addr.{MatchIp, ipv4_bits, ipv6_bits};
 ghost use Rattle.httparse.specs.Spans.{IsHeaderWithin};
@@ -25,8 +25,8 @@ pub fn address_number(address: IpAddr) -> u128
     }
 }
 
-/// Whether a request from this address may name the user that its fields name: it names none, or one alone and comes
-/// from a proxy.
+/// Returns true if a request from this address may name the user that its fields name: it names none, or one alone and
+/// comes from a proxy.
 pub(crate) fn may_name(
     users: Option<UserHeader<'_>>,
     from: u128,
@@ -44,7 +44,7 @@ pub(crate) fn may_name(
         && (field(input, fields, name).is_none() || is_proxy(header.proxies, from))
 }
 
-// Whether an address is that of a proxy.
+// Returns true if an address is that of a proxy.
 fn is_proxy(proxies: &[u128], from: u128) -> bool
     ensures { result ≡ is_proxy proxies.now from }
 {

@@ -1,4 +1,4 @@
-//! Which item a number falls in, with the weights laid end to end.
+//! Finds the item that a number falls in, with the weights laid end to end.
 ghost use Rattle.std.specs.Prelude.{◌<◌, ◌≤◌, ◌↔◌, sum_by, length, IsNone, IfSome};
 ghost use Rattle.weight_tree.specs.Find.{FallsIn};
 

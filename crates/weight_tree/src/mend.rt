@@ -1,4 +1,4 @@
-//! What a branch stores of a side, updated after that side has changed.
+//! Updates what a branch stores of a side after that side has changed.
 ghost use Rattle.std.specs.Prelude.{◌≡◌, ◌+◌, length, sum_by};
 ghost use Rattle.weight_tree.specs.Balance.{IsBalanced};
 ghost use Rattle.weight_tree.specs.Sides.{StoresLeft, StoresRight};

@@ -1,4 +1,4 @@
-//! How a tree is taken apart and put together, and how a side that is too heavy is rebalanced.
+//! Takes a tree apart, puts it together, and rebalances a side that is too heavy.
 //!
 //! Here the weight of a side is its number of items plus one. At worst, an insertion below leaves sides of the weights
 //! 3w + 1 and w, and a removal leaves sides of the weights 3w + 3 and w. Let a be the outer and b the inner part of the
@@ -24,7 +24,7 @@ use crate::tree::WeightTree;
 use crate::weigh::Weigh;
 use std::mem;
 
-// Whether a side of this size is light enough beside the other.
+// Returns true if a side of this size is light enough beside the other.
 pub(crate) fn is_light_enough(size: usize, other: usize) -> bool
     ensures { IsTrue result ↔ (size + 1 ≤ 3 * (other + 1)) }
 {
@@ -89,7 +89,7 @@ impl<T: Weigh> WeightTree<T> {
         }
     }
 
-    // Whether a single rotation rebalances a heavy side with these parts.
+    // Returns true if a single rotation rebalances a heavy side with these parts.
     fn single_mends(outer: &Self, inner: &Self) -> bool
         ensures choice { IsTrue result ↔ (length inner.now.items + 1
             < 2 * (length outer.now.items + 1)) }

@@ -1,8 +1,8 @@
-//! The words for what a request does on a pad.
+//! The words for the acts of requests on a pad.
 ghost use Rattle.std.specs.Prelude.{◌≡◌};
 ghost use Rattle.wire_json.specs.Words.{act_word_of};
 
-/// What a request does on a pad, by the word in its field `do`.
+/// The act of a request on a pad, by the word in its field `do`.
 #[derive(Clone, Copy)]
 pub enum ActWord {
     Join,

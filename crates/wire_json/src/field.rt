@@ -48,7 +48,7 @@ pub fn optional_number_field(value: &Value, key: &str) -> Result<Option<u64>, Re
     }
 }
 
-/// Whether something is asked for; it is not where the field is absent or null.
+/// Returns the truth value of a field; false if it is absent or null.
 pub fn flag_field(value: &Value, key: &str) -> Result<bool, Refusal>
     ensures { IsForm (option_map (λ given. unwrap_or given false) (optional truth_in key.now (view value.now))) result }
 {

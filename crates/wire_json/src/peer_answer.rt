@@ -88,7 +88,7 @@ fn answer_value(alloc: Global, line: &[u8]) -> Result<Value, Refusal>
     }
 }
 
-/// Whether an answer gives what was asked for. If it neither does nor is a refusal, it is an error.
+/// Returns true if an answer grants the request, and false if it refuses it. Anything else is an error.
 fn is_granted(value: &Value) -> Result<bool, Refusal>
     ensures { IsForm (granted_in (view value.now)) result }
 {

@@ -65,7 +65,7 @@ pub fn state_word(state: Pushed) -> &'static str
     }
 }
 
-/// What became of a pushed operation, by a peer's word.
+/// Returns the outcome of a pushed operation, by a peer's word.
 pub fn state_of_word(word: &str) -> Option<Pushed>
     ensures { result ≡ state_of_word word.now }
 {

@@ -14,7 +14,7 @@ use crate::splitter::LineSplitter;
 use std::alloc::Global;
 use std::marker::Model;
 
-/// What is at the front of the bytes.
+/// The result of looking for a line at the front of the bytes.
 #[derive(Clone, Copy, Debug, PartialEq, Eq)]
 pub enum FoundLine {
     /// A line.

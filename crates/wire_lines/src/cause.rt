@@ -1,4 +1,4 @@
-//! Which of the system's errors belongs to a fault.
+//! The system's error that belongs to a fault.
 ghost use Rattle.std.specs.Prelude.{◌≡◌};
 ghost use Rattle.wire_lines.specs.Errors.{cause};
 

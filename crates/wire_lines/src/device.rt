@@ -3,7 +3,7 @@ ghost use Rattle.std.specs.Prelude.{◌≡◌, ℕ, ◌≤◌, Bool, true, List,
 ghost use Rattle.std.specs.Io.KnownBytes.{Keeps, ReadConsumes, WriteAppends};
 ghost use Rattle.wire_lines.specs.Device.{after_read, after_write, after_flush, one_more};
 
-/// Why a read gave nothing.
+/// The reason why a read gave no bytes.
 #[derive(Clone, Copy, Debug, PartialEq, Eq)]
 pub enum ReadError {
     /// The read was interrupted and can be repeated.
@@ -43,7 +43,7 @@ pub trait Sink {
     /// The number of calls that failed or took none of the bytes offered, at most the greatest `u64`.
     ghost failures: { Self → ℕ };
 
-    /// Whether everything that was written has been sent on, if the writer says.
+    /// True if everything that was written has been sent on; None where the writer does not say.
     ghost is_sent: { Self → Option Bool } = { λ _. None };
 
     /// Writes once, and returns how many of the bytes were taken.

@@ -1,4 +1,4 @@
-//! Why a connection ends before its input does: each fault has a name and a number.
+//! The reasons why a connection ends before its input does: each fault has a name and a number.
 ghost use Rattle.std.specs.Prelude.{◌≡◌};
 ghost use Rattle.wire_lines.specs.Faults.{code_of, name_of};
 ghost use Rattle.wire_lines.specs.declared.fault.Fault.TheVariants.{Memory};
@@ -6,7 +6,7 @@ ghost use Rattle.wire_lines.specs.declared.fault.Fault.TheVariants.{Memory};
 use std::alloc::{AllocError, AllocFailed};
 use thiserror::Error;
 
-/// Why a connection or a relay round ended early.
+/// The reason why a connection or a relay round ended early.
 #[derive(Clone, Copy, Debug, PartialEq, Eq, Error)]
 pub enum Fault {
     /// 510: the reader failed, or `MAX_READS` reads were made.

@@ -1,4 +1,4 @@
-//! Where a line ends, and whether a carriage return comes before its end.
+//! Finds the end of a line, and a carriage return before it.
 ghost use Rattle.std.specs.Prelude.{◌≡◌, ◌+◌, ◌≤◌, length, drop, slice_range};
 ghost use Rattle.std.specs.List.{position};
 ghost use Rattle.wire_lines.specs.Lines.{is_feed, line_end, without_return};

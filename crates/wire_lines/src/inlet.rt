@@ -66,7 +66,7 @@ impl Inlet {
         &self.chunk[..count]
     }
 
-    /// Whether the source is at its end.
+    /// Returns true if the source is at its end.
     pub fn has_ended(&self) -> bool
         ensures { result ≡ self.now.ended }
     {

@@ -12,7 +12,7 @@ use crate::device::Source;
 use crate::fault::Fault;
 use std::alloc::Global;
 
-/// What comes next.
+/// The result of reading a line.
 #[derive(Clone, Copy, Debug, PartialEq, Eq)]
 pub enum Line<'a> {
     /// A line, without its line end.

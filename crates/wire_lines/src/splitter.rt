@@ -78,7 +78,7 @@ impl LineSplitter {
         self.held.len() - self.start
     }
 
-    /// Whether no bytes wait.
+    /// Returns true if no bytes wait.
     pub fn is_empty(&self) -> bool
         ensures empty { result ≡ true → self.now.waiting ≡ [] }
         ensures some { result ≡ false → 0 < length self.now.waiting }
@@ -102,7 +102,7 @@ impl LineSplitter {
         None
     }
 
-    /// Whether any byte follows the line feed of the first line.
+    /// Returns true if any byte follows the line feed of the first line.
     pub fn has_second(&self) -> bool
         ensures { result ≡ nat_lt 0 (length (behind_line self.now.waiting)) }
     {

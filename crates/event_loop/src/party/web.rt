@@ -98,7 +98,7 @@ impl<K: ByteSocket> Party<K> {
         self.stage = Stage::Ends;
     }
 
-    // Whether a request over HTTP is not answered, or its socket not admitted.
+    // Returns true if a request over HTTP is not answered, or its socket not admitted.
     fn is_request(&self) -> bool
         ensures { result ≡ true → IsRequest self.now.protocol }
     {
@@ -108,7 +108,7 @@ impl<K: ByteSocket> Party<K> {
         )
     }
 
-    /// Opens the socket of a request that may have one. The bytes behind the request are its first ones.
+    /// Opens the socket of a request that may have one. The bytes after the request are its first ones.
     pub fn open(&mut self, alloc: Global)
         ensures { Goes self.old self.new }
     {
@@ -194,7 +194,7 @@ impl<K: ByteSocket> Party<K> {
         }
     }
 
-    // Whether nothing is owed.
+    // Returns true if nothing is owed.
     fn may_be_told(&self) -> bool
         ensures { result ≡ true → (self.now.stage ≢ Stage.Over)
             × (self.now.talk.replies ≡ []) × (self.now.outbox ≡ []) }

@@ -9,7 +9,7 @@ use std::test::Fail;
 
 const STONES: u64 = 1_000;
 
-// Which stone is removed next.
+// The stone that is removed next.
 #[derive(Clone, Copy, Debug)]
 enum Way {
     First,
@@ -27,7 +27,8 @@ fn next_rank(dice: &mut Dice, way: Way, count: usize) -> usize {
     }
 }
 
-// Whether a tree of `count` items may have this height: 4^height is at most 3^height times one more than `count`.
+// Returns true if a tree of `count` items may have this height: 4^height is at most 3^height times one more than
+// `count`.
 fn is_low(count: usize, height: usize) -> bool {
     let mut most: u64 = (count as u64).wrapping_add(1);
     let mut high: u64 = 1;

@@ -96,7 +96,7 @@ fn empty_tree_is_flat(rt: HostRuntime) {
     assert!(rt; count == 0, "{count} stones come by");
 }
 
-// Where each stone, of weight 1, is inserted among those before it.
+// The place at which each stone, of weight 1, is inserted among those before it.
 #[derive(Clone, Copy)]
 enum Way {
     End,

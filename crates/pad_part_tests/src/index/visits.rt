@@ -43,8 +43,8 @@ fn walk(tree: &WeightTree<Stone>, number: u64) -> Way {
     }
 }
 
-// Whether a search makes as many calls as it reports, asks no stone twice, and asks the stone of the number where
-// `find` stops.
+// Returns true if a search makes as many calls as it reports, asks no stone twice, and asks the stone of the number
+// where `find` stops.
 fn is_straight(tree: &WeightTree<Stone>, number: u64, way: Way) -> bool {
     let stops = match tree.find(number) {
         Some(found) => found.visits,

@@ -1,4 +1,4 @@
-//! Which names are well formed.
+//! The well-formed names.
 use pad_model::is_well_formed_name;
 
 #[test]

@@ -1,4 +1,4 @@
-//! Which operations the first wire version can represent.
+//! The operations that the first wire version can represent.
 use pad_model::{Items, Name, Op, OpName, Part, Refusal, Seen, Span, Stamp, op_in_v1};
 use std::alloc::Global;
 use std::test::Fail;
@@ -18,7 +18,7 @@ fn parts(alloc: Global, counter: u64, replica: u16) -> Result<Items<Part>, Refus
     Ok(parts)
 }
 
-/// Whether the first version can represent an operation that erases a stamp and the one after it.
+/// Returns true if the first version can represent an operation that erases a stamp and the one after it.
 fn is_said(alloc: Global, counter: u64, replica: u16) -> Result<bool, Refusal> {
     let op = Op {
         name: OpName {

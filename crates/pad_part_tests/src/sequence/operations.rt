@@ -1,4 +1,4 @@
-//! Which operations are within their limits, and which two are the same.
+//! The limits of operations, and the equality of two operations.
 use pad_model::{
     Items, MAX_COUNTER, Name, Op, OpName, Part, Refusal, Run, Seen, Span, Stamp, Text,
 };
@@ -193,7 +193,7 @@ fn is_same_as_its_copy(op: &Op) -> Result<bool, Refusal> {
     Ok(op.is_same(&op.clone()?))
 }
 
-/// Whether an operation that resolves a comment is the same as its copy.
+/// Returns true if an operation that resolves a comment is the same as its copy.
 fn copies(alloc: Global, head: Head<'_>) -> Result<bool, Refusal> {
     is_same_as_its_copy(&op_of(alloc, head, &RESOLUTION)?)
 }
@@ -202,7 +202,7 @@ fn is_same_as_with(alloc: Global, op: &Op, head: Head<'_>) -> Result<bool, Refus
     Ok(op.is_same(&op_of(alloc, head, &RESOLUTION)?))
 }
 
-/// Whether operations with these two heads that resolve a comment are the same.
+/// Returns true if operations with these two heads that resolve a comment are the same.
 fn are_same(alloc: Global, one: Head<'_>, other: Head<'_>) -> Result<bool, Refusal> {
     is_same_as_with(alloc, &op_of(alloc, one, &RESOLUTION)?, other)
 }

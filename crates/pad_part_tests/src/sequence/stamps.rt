@@ -32,7 +32,7 @@ fn what_is_outside_the_limits_is_refused(rt: HostRuntime) {
 /// Stamps of which each is newer than the one before it.
 const RISING: &[(u64, u16)] = &[(1, 1), (1, 2), (2, 1), (2, 65_535), (3, 2)];
 
-/// Whether the second of two stamps is newer, whether the first is less, and whether they are the same.
+/// True if the second of two stamps is newer, true if the first is less, and true if they are the same.
 type Order = (bool, bool, bool);
 
 fn order_of(a: (u64, u16), b: (u64, u16)) -> Result<Order, Refusal> {

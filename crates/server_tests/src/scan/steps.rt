@@ -152,7 +152,7 @@ const STORY: &[Turn<'static>] = &[
     (0, "look 1", "no name"),
 ];
 
-/// How many pads a server has room for, and the steps of its actors with their results.
+/// The number of pads that a server has room for, and the steps of its actors with their results.
 const TABLES: &[(u32, &[Turn<'static>])] = &[(1, RACE), (3, STEPS), (2, STORY)];
 
 fn are_told_by_new(
@@ -229,7 +229,7 @@ fn a_run_goes_on_under_new_accounts(rt: HostRuntime) -> Result<(), Fail> {
 
 const NOBODY_IS_TOLD: &str = r#"{"code":200,"error":"NoSession","ok":false}"#;
 
-/// Display names are those of the present accounts, and only authors are told them.
+/// Display names are those of the present accounts, and only authors get them.
 const DISPLAY_NAMES: &[Turn<'static>] = &[
     (0, r#"{"do":"people","authors":["ann"]}"#, NOBODY_IS_TOLD),
     HELLO_ANN,

@@ -59,7 +59,7 @@ fn shows<R: Source>(
     Ok(())
 }
 
-// The length of what is shown of a source.
+// The length of the output of `shown` for a source.
 fn count_shown<R: Source>(alloc: Global, source: &mut R) -> Result<usize, Fault> {
     let found = shown(alloc, source)?;
     Ok(found.len())
@@ -76,7 +76,7 @@ fn line_forms(rt: HostRuntime) -> Result<(), Fail> {
     Ok(())
 }
 
-// Two lines of a session, and what is read of them if they are cut after this many bytes.
+// Two lines of a session, and the lines that are read of them, up to the byte after which they are cut.
 const SESSION: &[u8] = b"{\"do\":\"create\",\"pad\":\"p\"}\r\n{\"do\":\"text\",\"pad\":\"p\"}\n";
 
 const BOTH: &[u8] = br#"{"do":"create","pad":"p"}|{"do":"text","pad":"p"}|"#;
@@ -131,7 +131,7 @@ const LONG: &[(usize, &[u8], usize)] = &[
     (MAX_LINE + 1, b"\nx", 3),
 ];
 
-// The length of what is shown of this many letters and an end.
+// The length of the output of `shown` for this many letters and an end.
 fn count_of_long(alloc: Global, length: usize, end: &[u8]) -> Result<usize, Fail> {
     let mut bytes = vec![in alloc; b'a'; length]?;
     bytes.extend_from_slice(end)?;
@@ -150,7 +150,8 @@ fn the_longest_line(rt: HostRuntime) -> Result<(), Fail> {
     Ok(())
 }
 
-/// How much a writer takes at a time, if not all; the call at which it fails, if any; the result, and what it took.
+/// The number of bytes that a writer takes at a time, if not all; the call at which it fails, if any; the result, and
+/// the bytes that it took.
 type WriteCase = (Option<usize>, Option<u64>, Result<(), Fault>, &'static str);
 
 const WRITTEN: &[WriteCase] = &[

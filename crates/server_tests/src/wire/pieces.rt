@@ -22,7 +22,7 @@ fn take_lines(splitter: &mut LineSplitter, out: &mut Vec<u8>) -> Result<(), Faul
     Ok(())
 }
 
-// Takes what waits without a line feed, ended by a full stop.
+// Takes the bytes that wait without a line feed, ended by a full stop.
 fn take_last(splitter: &mut LineSplitter, out: &mut Vec<u8>) -> Result<(), Fault> {
     if splitter.next_line().is_none() && splitter.last_line() {
         out.extend_from_slice(splitter.line())?;
@@ -103,7 +103,7 @@ const FIRST: &[(&str, Option<&str>, bool)] = &[
     ("a\r\n\n", Some("a"), true),
 ];
 
-// Asserts what is reported of bytes, twice.
+// Asserts the report on bytes, twice.
 fn tells_first(
     rt: &impl Abort,
     alloc: Global,
@@ -137,7 +137,7 @@ fn the_first_line_is_told_without_effect(rt: HostRuntime) -> Result<(), Fail> {
     Ok(())
 }
 
-// This many letters and an end, and what is found first.
+// This many letters and an end, and the line that is found first.
 const LONG: &[(usize, &[u8], Option<FoundLine>)] = &[
     (MAX_LINE, b"", None),
     (MAX_LINE, b"\n", Some(FoundLine::Text)),
@@ -147,7 +147,7 @@ const LONG: &[(usize, &[u8], Option<FoundLine>)] = &[
     (MAX_LINE + 1, b"\n", Some(FoundLine::TooLong)),
 ];
 
-// What is found first, and whether `first_line` gave it before.
+// The line that is found first, and true if `first_line` gave one before.
 fn found_of_long(
     alloc: Global,
     length: usize,
@@ -176,7 +176,7 @@ fn the_longest_piece(rt: HostRuntime) -> Result<(), Fail> {
     Ok(())
 }
 
-// Reads once, and writes what was read, ended by a bar; a full stop at the end.
+// Reads once, and writes the bytes that were read, ended by a bar; a full stop at the end.
 fn read_once<R: Source>(inlet: &mut Inlet, source: &mut R, out: &mut Vec<u8>) -> Result<(), Fault> {
     if inlet.has_ended() {
         out.push(b'.')?;

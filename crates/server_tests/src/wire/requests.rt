@@ -202,7 +202,7 @@ const REQUESTS: &[(&str, &str)] = &[
     ),
 ];
 
-/// What a line is read as: its request in `{:?}` form, or the number of its refusal.
+/// The reading of a line: its request in `{:?}` form, or the number of its refusal.
 fn shown(alloc: Global, line: &[u8]) -> Result<String, AllocError> {
     match read_request(alloc, line) {
         Ok(request) => format!(in alloc; "{request:?}"),
@@ -246,7 +246,7 @@ fn insertion(alloc: Global, written: &[u8]) -> Result<Vec<u8>, AllocError> {
     Ok(line)
 }
 
-/// Texts in their written form, and what they mean.
+/// Texts in their written form, and their meaning.
 const TEXTS: &[(&[u8], &str)] = &[
     (b"\\u0000\\uffff\\n\\/", "\u{0}\u{ffff}\n/"),
     (b"\\ud83d\\ude00", "\u{1f600}"),

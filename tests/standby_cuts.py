@@ -24,37 +24,46 @@ class Cutter(threading.Thread):
         self.to, self.dice = to, random.Random(seed)
         self.listener = socket.create_server(("127.0.0.1", 0))
         self.port = self.listener.getsockname()[1]
-        self.cuts, self.cuts_on = 0, True
+        self.cuts, self.cuts_on, self.is_broken = 0, True, False
+        # How many bytes the main server's connection may still send; None: any number.
+        self.left = None
         self.start()
 
     def run(self):
         while True:
             main, _ = self.listener.accept()
             try:
+                if self.is_broken:
+                    raise OSError
                 standby = socket.create_connection(("127.0.0.1", self.to))
             except OSError:
                 main.close()
                 continue
             # Enough for the greeting and the list of copies, most often, and then for some rounds.
-            left = self.dice.randrange(200, 60_000) if self.cuts_on else None
-            back = threading.Thread(target=self.pass_on, args=(standby, main, None), daemon=True)
+            self.left = self.dice.randrange(200, 60_000) if self.cuts_on else None
+            back = threading.Thread(target=self.pass_on, args=(standby, main, False), daemon=True)
             back.start()
-            self.pass_on(main, standby, left)
+            self.pass_on(main, standby, True)
             back.join()
 
-    def pass_on(self, source, sink, left):
-        """Passes on so many bytes, and then breaks both connections off."""
+    def break_off(self, left):
+        """Lets the main server send so many more bytes, and then nothing, over no other connection either."""
+        self.is_broken, self.left = True, left
+
+    def pass_on(self, source, sink, is_counted):
+        """Passes bytes on, as many as are left where they are counted, and then breaks both connections off."""
         try:
-            while left is None or left > 0:
+            while not is_counted or self.left is None or self.left > 0:
                 some = source.recv(4_096)
                 if not some:
                     break
-                sink.sendall(some if left is None else some[:left])
-                if left is not None:
-                    left -= len(some)
+                if is_counted and self.left is not None:
+                    some = some[: self.left]
+                    self.left -= len(some)
+                sink.sendall(some)
         except OSError:
             pass
-        if left is not None and left <= 0:
+        if is_counted and self.left == 0:
             self.cuts += 1
         for end in (source, sink):
             try:

@@ -1,11 +1,27 @@
 """Authors who write under load and change rights, and whether everything that was answered to them is there after a promotion."""
+import math
 import random
 import threading
+import time
+from dataclasses import dataclass
+from typing import Tuple
 
 from harness import Failed, want
 from two_machines import NAMES, entries_of
 
 PADS = 20
+
+
+@dataclass(frozen=True)
+class Made:
+    """An edit or a comment that was answered, and when."""
+
+    at: float
+    pad: str
+    now: int
+    name: Tuple[int, int]
+    kind: str
+    text: str
 
 
 class Writer(threading.Thread):
@@ -17,7 +33,8 @@ class Writer(threading.Thread):
         self.client = machines.author(name)
         self.pads = {}
         self.made = []
-        # For each pad that was created: the last right of each author, as it was answered.
+        # When each pad was created, and for each of them the rights of each author, with the times of the answers.
+        self.created = {}
         self.rights = {}
         # A grant that may not have been answered: the pad, the author and the right.
         self.asked = None
@@ -47,25 +64,28 @@ class Writer(threading.Thread):
         if deed < 0.8:
             text = f"{self.name}{len(self.made)} "
             answer = self.ask(do="insert", pad=pad, rev=now, at=0, text=text)
-            self.made.append((pad, answer["now"], tuple(answer["name"]), "insert", text))
+            self.note(pad, answer, "insert", text)
         elif deed < 0.9 and now > 0:
             text = f"{self.name} asks {len(self.made)}"
             length = self.ask(do="text", pad=pad)
             if not length["text"]:
                 return
             answer = self.ask(do="comment", pad=pad, rev=length["rev"], at=0, len=1, text=text)
-            self.made.append((pad, answer["now"], tuple(answer["name"]), "comment", text))
+            self.note(pad, answer, "comment", text)
         else:
             self.share()
+
+    def note(self, pad, answer, kind, text):
+        self.made.append(Made(time.monotonic(), pad, answer["now"], tuple(answer["name"]), kind, text))
 
     def share(self):
         """Creates a pad, gives somebody a right on one of those created, and mostly takes one away that was given before."""
         mine = f"{self.name}-{len(self.rights)}"
         self.ask(do="create", pad=mine)
-        self.rights[mine] = {}
+        self.created[mine], self.rights[mine] = time.monotonic(), {}
         other = self.dice.choice([it for it in NAMES if it != self.name])
         self.grant(self.dice.choice(list(self.rights)), other, self.dice.choice(["read", "comment", "write", "none"]))
-        given = [(pad, author) for pad, rights in self.rights.items() for author, right in rights.items() if right != "none"]
+        given = [(pad, author) for pad, given in self.rights.items() for author, rights in given.items() if rights[-1][1] != "none"]
         if given and self.dice.random() < 0.7:
             pad, author = self.dice.choice(given)
             self.grant(pad, author, "none")
@@ -75,7 +95,7 @@ class Writer(threading.Thread):
         self.asked = (pad, author, right)
         self.ask(do="grant", pad=pad, author=author, right=right)
         self.asked = None
-        self.rights[pad][author] = right
+        self.rights[pad].setdefault(author, []).append((time.monotonic(), right))
 
 
 def begin_pads(machines):
@@ -88,8 +108,9 @@ def begin_pads(machines):
     owner.close()
 
 
-def check_answered(machines, writers):
-    """Everything that was answered is there at the promoted server, under its author, and no name was used twice."""
+def check_answered(machines, writers, until=math.inf):
+    """What was answered by a time is there at the promoted server, under its author, and no name was used twice. Returns how
+    much that was."""
     reader = machines.author("ann", number=2)
     entries, texts, comments = {}, {}, {}
     for number in range(PADS):
@@ -101,24 +122,29 @@ def check_answered(machines, writers):
         comments[pad] = [it["text"] for it in reader.does(do="comments", pad=pad)["comments"]]
     answered = 0
     for writer in writers:
-        for pad, now, name, kind, text in writer.made:
-            found = entries[pad][now - 1] if now <= len(entries[pad]) else None
-            want(found, (name, f"{writer.name}@1", kind), f"revision {now} of {pad}")
-            want(text in (texts[pad] if kind == "insert" else comments[pad]), True, f"that {text!r} is in {pad}")
+        for it in writer.made:
+            if it.at > until:
+                continue
+            found = entries[it.pad][it.now - 1] if it.now <= len(entries[it.pad]) else None
+            want(found, (it.name, f"{writer.name}@1", it.kind), f"revision {it.now} of {it.pad}")
+            want(it.text in (texts if it.kind == "insert" else comments)[it.pad], True, f"that {it.text!r} is in {it.pad}")
             answered += 1
-        for pad in writer.rights:
-            check_rights(machines, writer, pad)
-            answered += 1
+        for pad, created in writer.created.items():
+            if created <= until:
+                check_rights(machines, writer, pad, until)
+                answered += 1
     return answered
 
 
-def check_rights(machines, writer, pad):
-    """Each author has the last right on a pad that its owner was answered, or the one that was asked for and not answered."""
+def check_rights(machines, writer, pad, until):
+    """Each author has the last right on a pad that its owner was answered by a time, or one that was asked for later."""
     client = machines.author(writer.name, pad, 2)
     told = dict(client.does(do="rights", pad=pad)["rights"])
     client.close()
     for author in NAMES:
-        due = ["own" if author == writer.name else writer.rights[pad].get(author, "none")]
+        rights = [(-math.inf, "own" if author == writer.name else "none"), *writer.rights[pad].get(author, [])]
+        last = max(place for place, (at, _) in enumerate(rights) if at <= until)
+        due = [right for _, right in rights[last:]]
         if writer.asked and writer.asked[:2] == (pad, author):
             due.append(writer.asked[2])
         right = told.pop(author, "none")

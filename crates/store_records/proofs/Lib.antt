@@ -1,4 +1,5 @@
 -- The lemmas, by topic.
+pub mod Acts
 pub mod Deliveries
 pub mod Fronts
 pub mod Idle

@@ -1,33 +1,17 @@
 -- The records of a request lead from the restarted pad before it to the restarted pad after it.
-use Rattle.std.proofs.Common.{◌≡◌, ◌⊎◌, inl, inr, ℕ, ◌+◌, Bool, true, false, not, cond, List, [], ◌∷◌, ◌++◌}
-use Rattle.std.proofs.Common.{length, map, Option, Some, None, Result, Ok, Err, bytes_eq, nat_le, unwrap_or}
-use Rattle.std.proofs.Common.{ltb, refl, sym, ap, ◌∙◌, subst, fold}
+use Rattle.std.proofs.Common.{◌≡◌, inl, inr, ℕ, ◌+◌, true, not, List, [], ◌∷◌}
+use Rattle.std.proofs.Common.{Option, Some, None, Result, Ok, Err, bytes_eq, unwrap_or, refl, sym, ap, ◌∙◌, subst, fold}
 use Rattle.pad_model.specs.Checked.{is_name}
-use Rattle.pad_model.specs.Visible.{visible}
 use Rattle.pad_model.specs.declared.op.Op.{Op}
 use Rattle.pad_model.specs.declared.refusal.Refusal.{Refusal}
-use Rattle.pad_model.specs.declared.refusal.Refusal.TheVariants.{Memory, Crowded, NoPad}
+use Rattle.pad_model.specs.declared.refusal.Refusal.TheVariants.{Memory, NoPad}
 use Rattle.pad_model.specs.declared.who.Who.{Who}
 use Rattle.pad_model.specs.declared.who.Who.TheVariants as who
-use Rattle.pad_model.specs.declared.who.Version.{Version}
-use Rattle.rights.specs.Rights.{Rights, can_have, grant, hand, is_full}
-use Rattle.rights.specs.declared.grantee.Grantee.{Grantee}
-use Rattle.rights.specs.declared.grantee.Grantee.TheVariants.{Author, Everyone}
-use Rattle.rights.specs.declared.right.Right.{Right}
-use Rattle.rights.specs.declared.right.Right.TheVariants.{Write}
-use Rattle.named_revisions.specs.Named.{add, name_refusal}
-use Rattle.named_revisions.specs.declared.named_revision.NamedRevision.{NamedRevision}
-use Rattle.presence.specs.Presence.{Presence, join_refusal, joined, spent_refusal, with_caret}
+use Rattle.presence.specs.Presence.{Presence}
 use Rattle.sessions.specs.declared.session.Room.{Room}
-use Rattle.pad_core.specs.Counts.{characters_at}
-use Rattle.pad_core.specs.Delivered.{IsDelivered}
-use Rattle.pad_core.specs.Edits.{before_place}
-use Rattle.pad_core.specs.Grants.{grant as granted, hand as handed, told_done}
-use Rattle.pad_core.specs.Machine.{Machine, author_act, author_refusal, author_step, now_of, nobody_refusal}
-use Rattle.pad_core.specs.Machine.{peer_act, session_step, step, need_of, new_owned}
-use Rattle.pad_core.specs.Marks.{mark, named as revision_named}
-use Rattle.pad_core.specs.Presence.{join, put_caret}
-use Rattle.pad_core.specs.Restart.{restarted, restore_claim, restore_grant, restore_hand, restore_mark, visited}
+use Rattle.pad_core.specs.Machine.{Machine, author_act, author_refusal, author_step, nobody_refusal}
+use Rattle.pad_core.specs.Machine.{session_step, step, need_of, new_owned}
+use Rattle.pad_core.specs.Restart.{restarted, restore_claim}
 use Rattle.pad_core.specs.declared.act.Act.{Act}
 use Rattle.pad_core.specs.declared.act.Act.TheVariants as act
 use Rattle.pad_core.specs.declared.event.Claim.{Claim}
@@ -38,7 +22,6 @@ use Rattle.pad_core.specs.declared.reply.PadReply.TheVariants as pad
 use Rattle.pad_core.specs.declared.request.Request.{Request}
 use Rattle.pad_core.specs.declared.request.Request.TheVariants as request
 use Rattle.pad_core.proofs.Admitted.{admitted_grant, admitted_hand}
-use Rattle.pad_core.proofs.Allowed.{unless}
 use Rattle.server_core.specs.Actor.{visit_on}
 use Rattle.server_core.specs.AtCell.{CellAnswer, passed_on, created, create_at, request_at}
 use Rattle.server_core.specs.Rooms.{IsAsked}
@@ -47,7 +30,6 @@ use Rattle.sessions.specs.Session.{IsNamed}
 use Rattle.store_records.specs.Laws.{Left, Life, now_at}
 use Rattle.store_records.specs.Laws.Life.{begins, asked, ticked, left, starts_again}
 use Rattle.pad_core.specs.Times.{timed}
-use Rattle.pad_core.proofs.Timed.{same_times}
 use Rattle.std.proofs.lemmas.List.Sums.{fold-append}
 use Rattle.store_records.specs.Records.{Answer, act_records, claim_records, rebuilt, records_of, replay_all, replayed}
 use Rattle.store_records.specs.Records.{unless_refused, unnamed}
@@ -55,15 +37,7 @@ use Rattle.store_records.specs.declared.kept_record.Record.{Record}
 use Rattle.store_records.specs.declared.kept_record.Record.TheVariants as kept
 use Rattle.store_records.proofs.Deliveries.{bare, quiet}
 use Rattle.store_records.proofs.Numbers.{alone, bare_stays}
-
--- some records lead from a pad to another, which delivered these operations
-abbrev Leads : (ℕ → Answer → List Op → List Record) → Machine → Answer → Machine → Type 0
-Leads records old answer after = (more : List Op) → after.log ≡ old.log ++ more → IsDelivered after.log →
-    replay_all (records (now_at old) answer more) (restarted old) ≡ Ok (restarted after)
-
-either : {A : Type 0} (P : A → Type 0) (b : Bool) (x y : A) → P x → P y → P (cond b x y)
-either P true x y p q = p
-either P false x y p q = q
+use Rattle.store_records.proofs.Acts.{Leads, author_leads, either, elsewhere, idle, peer_leads}
 
 abbrev machine : Option Owned → ℕ → List Op → List Op → Presence → ℕ → List ℕ → Machine
 machine o replica log held p clock times = record {
@@ -75,264 +49,6 @@ machine o replica log held p clock times = record {
   clock = clock;
   times = times;
 }
-
--- if a client can join, a further number is given
-can_join : (p : Presence) → join_refusal p ≡ None → spent_refusal p ≡ None
-can_join p e = (unless (nat_le p.limit (length p.present)) Crowded _ e).1
-
-visit_again : (owned : Owned) (replica : ℕ) (log : List Op) (p : Presence) (times : List ℕ) → join_refusal p ≡ None →
-    replay_all (kept.Visited ∷ []) (bare (Some owned) replica p.limit log p.given times)
-    ≡ Ok (bare (Some owned) replica p.limit log (p.given + 1) times)
-visit_again owned replica log p times e =
-    ap (λ (d : Result (Unit {0}) Refusal × Presence). unless_refused (
-      d.0,
-      record { owned = Some owned; replica = replica; log = log; held = []; presence = d.1; clock = 0; times = times },
-    )) counts
-  where
-    counts : visited owned.rights.owner (record { limit = p.limit; given = p.given; present = [] })
-        ≡ (Ok tt, record { limit = p.limit; given = p.given + 1; present = [] })
-    counts = rw (can_join p e) (ap (λ (q : Presence). (let r : Result (Unit {0}) Refusal × Presence = (Ok tt, q) in r))
-        (alone p.limit p.given owned.rights.owner))
-
-joins : (owned : Owned) (name : List ℕ) (m : Machine) → m.owned ≡ Some owned →
-    Leads (act_records (who.Author name) act.Join) m (passed_on (join (now_of m) name m.presence).0)
-    (record m { presence = (join (now_of m) name m.presence).1 })
-joins owned name m is = at (join_refusal m.presence) refl
-  where
-    Goal : Result PadReply Refusal × Presence → Type 0
-    Goal done = Leads (act_records (who.Author name) act.Join) m (passed_on done.0) (record m { presence = done.1 })
-
-    refused : (e : Refusal) → join_refusal m.presence ≡ Some e → join (now_of m) name m.presence ≡ (Err e, m.presence)
-    refused e q = rw q refl
-
-    allowed : join_refusal m.presence ≡ None → join (now_of m) name m.presence
-        ≡ (Ok (pad.Joined (now_of m) (m.presence.given + 1)), joined name m.presence)
-    allowed q = rw q refl
-
-    at : (r : Option Refusal) → join_refusal m.presence ≡ r → Goal (join (now_of m) name m.presence)
-    at (Some e) q = subst Goal (sym (refused e q)) (λ more grown d. quiet m m more refl refl refl refl (same_times m) grown d)
-    at None q =
-        subst Goal (sym (allowed q))
-        (λ more grown d. subst (λ (o : Option Owned). replay_all (kept.Visited ∷ [])
-        (bare o m.replica m.presence.limit m.log m.presence.given m.times)
-        ≡ Ok (bare o m.replica m.presence.limit m.log (m.presence.given + 1) m.times)) (sym is)
-        (visit_again owned m.replica m.log m.presence m.times q))
-
-grant_again : (owned : Owned) (replica limit : ℕ) (log : List Op) (given : ℕ) (times : List ℕ)
-    (grantee : Grantee) (right : Option Right) (book : Rights) → can_have grantee right ≡ true → grant owned.rights grantee right ≡ (Ok tt, book) →
-    replay_all (kept.Granted grantee right ∷ []) (bare (Some owned) replica limit log given times)
-    ≡ Ok (bare (Some (record owned { rights = book })) replica limit log given times)
-grant_again owned replica limit log given times grantee right book can is =
-    ap unless_refused grants_it
-  where
-    grants_it : restore_grant grantee right (bare (Some owned) replica limit log given times)
-        ≡ (Ok tt, bare (Some (record owned { rights = book })) replica limit log given times)
-    grants_it = rw can (ap (λ (d : Result (Unit {0}) Refusal × Rights). (let r : Result (Unit {0}) Refusal
-        × Machine = (d.0, bare (Some (record owned { rights = d.1 })) replica limit log given times) in r)) is)
-
--- a grant is refused and changes nothing, or it takes effect
-abbrev Grants : Rights → Result (Unit {0}) Refusal × Rights → Type 0
-Grants old done = ((e : Refusal) × (done ≡ (Err e, old))) ⊎ ((new : Rights) × (done ≡ (Ok tt, new)))
-
-grants : (book : Rights) (grantee : Grantee) (right : Option Right) → Grants book (grant book grantee right)
-grants book Everyone right = inr (_, refl)
-grants book (Author name) right =
-    either (Grants book) (bytes_eq name book.owner) _ _ (inl (_, refl))
-    (either (Grants book) (is_full book.grants name right) _ _ (inl (_, refl)) (inr (_, refl)))
-
-gives : (owned : Owned) (name : List ℕ) (grantee : Grantee) (right : Option Right) (m : Machine) → m.owned ≡ Some owned →
-    can_have grantee right ≡ true →
-    Leads (act_records (who.Author name) (act.Grant grantee right)) m (passed_on (granted (now_of m) grantee right owned.rights).0)
-    (record m { owned = Some (record owned { rights = (granted (now_of m) grantee right owned.rights).1 }) })
-gives owned name grantee right m is can = at (grant owned.rights grantee right) refl (grants owned.rights grantee right)
-  where
-    Goal : Result (Unit {0}) Refusal × Rights → Type 0
-    Goal done = Leads (act_records (who.Author name) (act.Grant grantee right)) m (passed_on (told_done (now_of m) done.0))
-        (record m { owned = Some (record owned { rights = done.1 }) })
-
-    at : (done : Result (Unit {0}) Refusal × Rights) → grant owned.rights grantee right ≡ done →
-        Grants owned.rights done → Goal done
-    at done q (inl (e, same)) = subst Goal (sym same)
-        (λ more grown d. quiet m (record m { owned = Some owned }) more (sym is) refl refl refl (same_times m) grown d)
-    at done q (inr (new, same)) =
-        subst Goal (sym same)
-        (λ more grown d. subst (λ (o : Option Owned). replay_all (kept.Granted grantee right ∷ [])
-        (bare o m.replica m.presence.limit m.log m.presence.given m.times)
-        ≡ Ok (bare (Some (record owned { rights = new })) m.replica m.presence.limit m.log m.presence.given m.times)) (sym is)
-        (grant_again owned m.replica m.presence.limit m.log m.presence.given m.times grantee right new can (q ∙ same)))
-
-hand_again : (owned : Owned) (replica limit : ℕ) (log : List Op) (given : ℕ) (times : List ℕ)
-    (author : List ℕ) (book : Rights) →
-    is_name author ≡ true → hand owned.rights author ≡ (Ok tt, book) →
-    replay_all (kept.Handed author ∷ []) (bare (Some owned) replica limit log given times)
-    ≡ Ok (bare (Some (record owned { rights = book })) replica limit log given times)
-hand_again owned replica limit log given times author book named is =
-    ap unless_refused hands_it
-  where
-    hands_it : restore_hand author (bare (Some owned) replica limit log given times)
-        ≡ (Ok tt, bare (Some (record owned { rights = book })) replica limit log given times)
-    hands_it = rw named (ap (λ (d : Result (Unit {0}) Refusal × Rights). (let r : Result (Unit {0}) Refusal
-        × Machine = (d.0, bare (Some (record owned { rights = d.1 })) replica limit log given times) in r)) is)
-
-hand_overs : (book : Rights) (author : List ℕ) → Grants book (hand book author)
-hand_overs book author =
-    either (Grants book) (bytes_eq author book.owner) _ _ (inr (_, refl))
-    (either (Grants book) (is_full book.grants author (Some Write)) _ _ (inl (_, refl)) (inr (_, refl)))
-
-hands : (owned : Owned) (asker author : List ℕ) (m : Machine) → m.owned ≡ Some owned → is_name author ≡ true →
-    Leads (act_records (who.Author asker) (act.Hand author)) m (passed_on (handed (now_of m) asker author owned.rights).0)
-    (record m { owned = Some (record owned { rights = (handed (now_of m) asker author owned.rights).1 }) })
-hands owned asker author m is named =
-    either (λ (done : Result PadReply Refusal × Rights). Leads (act_records (who.Author asker) (act.Hand author)) m (passed_on done.0)
-    (record m { owned = Some (record owned { rights = done.1 }) })) (bytes_eq asker owned.rights.owner) _ _
-    (at (hand owned.rights author) refl (hand_overs owned.rights author))
-    (λ more grown d. quiet m (record m { owned = Some owned }) more (sym is) refl refl refl (same_times m) grown d)
-  where
-    Goal : Result (Unit {0}) Refusal × Rights → Type 0
-    Goal done = Leads (act_records (who.Author asker) (act.Hand author)) m (passed_on (told_done (now_of m) done.0))
-        (record m { owned = Some (record owned { rights = done.1 }) })
-
-    at : (done : Result (Unit {0}) Refusal × Rights) → hand owned.rights author ≡ done →
-        Grants owned.rights done → Goal done
-    at done q (inl (e, same)) = subst Goal (sym same)
-        (λ more grown d. quiet m (record m { owned = Some owned }) more (sym is) refl refl refl (same_times m) grown d)
-    at done q (inr (new, same)) =
-        subst Goal (sym same)
-        (λ more grown d. subst (λ (o : Option Owned). replay_all (kept.Handed author ∷ [])
-        (bare o m.replica m.presence.limit m.log m.presence.given m.times)
-        ≡ Ok (bare (Some (record owned { rights = new })) m.replica m.presence.limit m.log m.presence.given m.times)) (sym is)
-        (hand_again owned m.replica m.presence.limit m.log m.presence.given m.times author new named (q ∙ same)))
-
--- a name of a revision is refused and changes nothing, or it is added
-abbrev Names : List NamedRevision → Result (Unit {0}) Refusal × List NamedRevision → Type 0
-Names old done = ((e : Refusal) × (done ≡ (Err e, old))) ⊎ ((new : List NamedRevision) × (done ≡ (Ok tt, new)))
-
-namings : (now : ℕ) (this : NamedRevision) (all : List NamedRevision) → Names all (revision_named now this all)
-namings now this all = either (Names all) (ltb now this.rev) _ _ (inl (_, refl)) (at (name_refusal this.text all) refl)
-  where
-    at : (r : Option Refusal) → name_refusal this.text all ≡ r → Names all (add this all)
-    at (Some e) q = inl (e, rw q refl)
-    at None q = inr (all ++ this ∷ [], rw q refl)
-
-mark_again : (owned : Owned) (replica limit : ℕ) (log : List Op) (given : ℕ) (times : List ℕ) (this : NamedRevision)
-    (all : List NamedRevision) →
-    is_name this.author ≡ true → revision_named (length log) this owned.marks ≡ (Ok tt, all) →
-    replay_all (kept.Marked this ∷ []) (bare (Some owned) replica limit log given times)
-    ≡ Ok (bare (Some (record owned { marks = all })) replica limit log given times)
-mark_again owned replica limit log given times this all good is =
-    ap unless_refused names_it
-  where
-    names_it : restore_mark this (bare (Some owned) replica limit log given times)
-        ≡ (Ok tt, bare (Some (record owned { marks = all })) replica limit log given times)
-    names_it = rw good (ap (λ (d : Result (Unit {0}) Refusal × List NamedRevision). (let r : Result (Unit {0}) Refusal
-        × Machine = (d.0, bare (Some (record owned { marks = d.1 })) replica limit log given times) in r)) is)
-
-marks : (owned : Owned) (author : List ℕ) (rev : ℕ) (text : List ℕ) (m : Machine) → m.owned ≡ Some owned → is_name author ≡ true →
-    Leads (act_records (who.Author author) (act.Mark rev text)) m
-    (passed_on (mark (now_of m) (record { rev = rev; author = author; at = now_at m; text = text }) owned.marks).0)
-    (record m { owned = Some (record owned { marks = (mark (now_of m) (record { rev = rev; author = author; at = now_at m; text = text }) owned.marks).1 }) })
-marks owned author rev text m is good = at (revision_named (now_of m) this owned.marks) refl (namings (now_of m) this owned.marks)
-  where
-    this : NamedRevision
-    this = record { rev = rev; author = author; at = now_at m; text = text }
-
-    Goal : Result (Unit {0}) Refusal × List NamedRevision → Type 0
-    Goal done = Leads (act_records (who.Author author) (act.Mark rev text)) m (passed_on (told_done (now_of m) done.0))
-        (record m { owned = Some (record owned { marks = done.1 }) })
-
-    at : (done : Result (Unit {0}) Refusal × List NamedRevision) → revision_named (now_of m) this owned.marks ≡ done →
-        Names owned.marks done → Goal done
-    at done q (inl (e, unchanged)) = subst Goal (sym unchanged)
-        (λ more grown d. ap (λ (o : Option Owned). Ok (bare o m.replica m.presence.limit m.log m.presence.given m.times)) is)
-    at done q (inr (new, more_named)) =
-        subst Goal (sym more_named)
-        (λ more grown d. subst (λ (o : Option Owned). replay_all (kept.Marked this ∷ [])
-        (bare o m.replica m.presence.limit m.log m.presence.given m.times)
-        ≡ Ok (bare (Some (record owned { marks = new })) m.replica m.presence.limit m.log m.presence.given m.times)) (sym is)
-        (mark_again owned m.replica m.presence.limit m.log m.presence.given m.times this new good (q ∙ more_named)))
-
--- the operations alone lead from a pad to another
-abbrev Moves : Machine → Machine → Type 0
-Moves old after = (more : List Op) → after.log ≡ old.log ++ more → IsDelivered after.log →
-    replay_all (map (kept.Delivered (now_at old)) more) (restarted old) ≡ Ok (restarted after)
-
-same : (m : Machine) → Moves m m
-same m more grown d = quiet m m more refl refl refl refl (same_times m) grown d
-
-logs : (m : Machine) (log : List Op) → Moves m (record m { log = log; times = timed m.clock m.log log m.times })
-logs m log more grown d = quiet m (record m { log = log; times = timed m.clock m.log log m.times }) more refl refl refl refl
-    refl grown d
-
-present_alone : (m : Machine) (p : Presence) → p.limit ≡ m.presence.limit → p.given ≡ m.presence.given →
-    Moves m (record m { presence = p })
-present_alone m p limit given more grown d = quiet m (record m { presence = p }) more refl refl limit given (same_times m)
-    grown d
-
-carets : (rev at visit : ℕ) (log : List Op) (m : Machine) →
-    Moves m (record m { presence = (put_caret rev at visit log m.presence).1 })
-carets rev at visit log m = present_alone m (put_caret rev at visit log m.presence).1 (keeps (λ p. p.limit) refl)
-    (keeps (λ p. p.given) refl)
-  where
-    keeps : (part : Presence → ℕ) →
-        part (record m.presence {
-          present = with_caret (before_place (characters_at rev log) at) visit
-              m.presence.present;
-        }) ≡ part m.presence →
-        part (put_caret rev at visit log m.presence).1 ≡ part m.presence
-    keeps part same_part =
-        either (λ (done : Result PadReply Refusal × Presence). part done.1 ≡ part m.presence)
-        (ltb (length log) rev) _ _ refl
-        (either (λ (done : Result PadReply Refusal × Presence). part done.1 ≡ part m.presence)
-        (ltb (length (visible (characters_at rev log))) at) _ _ refl same_part)
-
--- an author's act
-author_leads : (owned : Owned) (name : List ℕ) (visit : ℕ) (this : Act) (m : Machine) → m.owned ≡ Some owned →
-    ((grantee : Grantee) (right : Option Right) → this ≡ act.Grant grantee right → can_have grantee right ≡ true) →
-    ((author : List ℕ) → this ≡ act.Hand author → is_name author ≡ true) →
-    is_name name ≡ true →
-    Leads (act_records (who.Author name) this) m (passed_on (author_act owned name visit this m).0)
-    (author_act owned name visit this m).1
-author_leads owned name visit act.Join m is can named good = joins owned name m is
-author_leads owned name visit act.Leave m is can named good =
-    λ more grown d. quiet m (author_act owned name visit act.Leave m).1 more refl refl refl refl (same_times m)
-    grown d
-author_leads owned name visit (act.Insert rev at text) m is can named good = logs m _
-author_leads owned name visit (act.Delete rev at len) m is can named good = logs m _
-author_leads owned name visit (act.Edit rev changes) m is can named good = logs m _
-author_leads owned name visit (act.Comment rev at len text) m is can named good = logs m _
-author_leads owned name visit (act.Resolve resolved) m is can named good = logs m _
-author_leads owned name visit (act.Caret rev at) m is can named good = carets rev at visit m.log m
-author_leads owned name visit (act.Grant grantee right) m is can named good =
-    gives owned name grantee right m is (can grantee right refl)
-author_leads owned name visit (act.Hand author) m is can named good =
-    hands owned name author m is (named author refl)
-author_leads owned name visit (act.Mark rev text) m is can named good =
-    marks owned name rev text m is good
-author_leads owned name visit other m is can named good = same m
-
--- a refused act leaves no records, and changes nothing
-idle : (w : Who) (this : Act) (e : Refusal) (m : Machine) → Leads (act_records w this) m (Err e) m
-idle w act.Join e m = same m
-idle who.Nobody (act.Mark rev text) e m = λ more grown d. refl
-idle (who.Author name) (act.Mark rev text) e m = λ more grown d. refl
-idle (who.Peer number version) (act.Mark rev text) e m = λ more grown d. refl
-idle w other e m = same m
-
--- an act at a pad of another name
-elsewhere : (w : Who) (this : Act) (m : Machine) → Leads (act_records w this) m (Ok None) m
-elsewhere w act.Join m = same m
-elsewhere who.Nobody (act.Mark rev text) m = λ more grown d. refl
-elsewhere (who.Author name) (act.Mark rev text) m = λ more grown d. refl
-elsewhere (who.Peer number version) (act.Mark rev text) m = λ more grown d. refl
-elsewhere w other m = same m
-
--- a peer's act
-peer_leads : (number : ℕ) (version : Version) (this : Act) (m : Machine) →
-    Leads (act_records (who.Peer number version) this) m (passed_on (peer_act version this m).0) (peer_act version this m).1
-peer_leads number version (act.Mark rev text) m = λ more grown d. refl
-peer_leads number version (act.Push op) m = λ more grown d. quiet m (peer_act version (act.Push op) m).1 more refl refl refl
-    refl refl grown d
-peer_leads number version other m = same m
 
 session_leads : (owned : Owned) (w : Who) (visit : Option ℕ) (this : Act) (m : Machine) → m.owned ≡ Some owned →
     IsNamed w → Leads (act_records w this) m (passed_on (session_step owned w visit this m).0) (session_step owned w visit this m).1

@@ -1,5 +1,6 @@
 -- The lemmas, by topic.
 pub mod BrowserClients
+pub mod BrowserMessages
 pub mod Browsing
 pub mod KnownEnds
 pub mod LineClients

@@ -1,9 +1,9 @@
-//! The page that says on how many machines an edit is kept once it is answered.
+//! The page that says the number of machines on which an edit is kept once it is answered.
 ghost use Rattle.web_wire.specs.Kept.{IsKept};
 
 use crate::page::Page;
 
-/// On how many machines an edit is kept once it is answered.
+/// The machines on which an edit is kept once it is answered.
 #[derive(Clone, Copy, Debug, PartialEq, Eq)]
 pub enum Machines {
     /// On none: the server has no store, and keeps pads in memory alone.

@@ -3,7 +3,7 @@ use Rattle.std.specs.Prelude.{codes}
 use Rattle.http1.specs.Server.{planned_response}
 use Rattle.http1.specs.declared.conn.BodySize.TheVariants.{Known}
 use Rattle.web_wire.specs.PageRequests.{page_fields}
-use Rattle.web_wire.proofs.PageRequests.{head_alone, head_then_text}
+use Rattle.web_wire.proofs.Responses.{head_alone, head_then_text}
 use Rattle.web_wire.proofs.reply.put_page.Goals as goal
 use Rattle.web_wire.proofs.reply.put_page.Goals.{In_ok-write_response}
 

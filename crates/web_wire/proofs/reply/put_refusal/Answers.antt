@@ -2,7 +2,7 @@ use Rattle.std.proofs.Common.{◌≡◌, ◌++◌, ap, ◌∙◌, length}
 use Rattle.http1.specs.Head.{pairs}
 use Rattle.http1.specs.Server.{planned_response}
 use Rattle.http1.specs.declared.conn.BodySize.TheVariants.{Known}
-use Rattle.web_wire.proofs.PageRequests.{head_alone, head_then_text}
+use Rattle.web_wire.proofs.Responses.{head_alone, head_then_text}
 use Rattle.web_wire.proofs.reply.put_refusal.Goals as goal
 use Rattle.web_wire.proofs.reply.put_refusal.Goals.{In_ok-write_response}
 

@@ -1,5 +1,6 @@
 use Rattle.std.proofs.Common.{◌∷◌, Ok, sym, ap, ◌∙◌}
-use Rattle.web_wire.proofs.PageRequests.{known_status, page_kept, page_served, refusal_reason, socket_opens, status_told, unread_reason, user_asked}
+use Rattle.web_wire.proofs.PageRequests.{page_kept, page_served, refusal_reason, socket_opens, unread_reason, user_asked}
+use Rattle.web_wire.proofs.Responses.{known_status, status_told}
 use Rattle.web_wire.proofs.page_request.PageRequest.answer.Goals as goal
 
 pub returns-in-Ok-respond-clause-socket : goal.returns-in-Ok-respond-clause-socket

@@ -1,5 +1,5 @@
 use Rattle.std.proofs.Common.{refl, sym, arith}
-use Rattle.web_wire.proofs.PageRequests.{unread_told}
+use Rattle.web_wire.proofs.Responses.{unread_told}
 use Rattle.web_wire.specs.contracts.page_request.PageRequest.{the_view}
 use Rattle.web_wire.proofs.page_request.PageRequest.refuse_unread.Goals as goal
 

@@ -1,5 +1,5 @@
 use Rattle.std.proofs.Common.{refl, sym, arith}
-use Rattle.web_wire.proofs.PageRequests.{page_responds, refusal_responds, socket_responds, unchanged_responds}
+use Rattle.web_wire.proofs.Responses.{page_responds, refusal_responds, socket_responds, unchanged_responds}
 use Rattle.web_wire.specs.contracts.page_request.PageRequest.{the_view}
 use Rattle.web_wire.proofs.page_request.PageRequest.respond.Goals as goal
 

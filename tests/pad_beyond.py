@@ -7,7 +7,7 @@ import re
 import subprocess
 
 from harness import Case, Starts, Test, put_files, start, want
-from pad_store import AT, DAMAGED, FIRST, LINES, LOG, VALUES, WHOLE, lines_of, time_of
+from sample_pad import AT, DAMAGED, FIRST, LINES, LOG, VALUES, WHOLE, lines_of, time_of
 from stores import STORE, kill
 from sockets import Server
 

@@ -8,8 +8,8 @@ import subprocess
 import time
 
 from harness import Failed, Test, put_files, start, want
-from pad_store import AT, LINES, SUMS, VALUES, WHOLE, ask, checked, delivered, lines_of
 from replay import runs_of, text_of
+from sample_pad import AT, LINES, SUMS, VALUES, WHOLE, ask, checked, delivered, lines_of
 from sockets import NAMES, Server
 from stores import STORE, kill
 

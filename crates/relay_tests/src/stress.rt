@@ -1,10 +1,10 @@
 //! Two servers whose authors write at once while they exchange over loopback.
+use crate::authors::write_all;
 use crate::loopback::{LoopbackRow, add_readings, add_vector, ask_all, connect, row_of, seats_of};
 use crate::sides::{AuthorAnswers, NO_ANSWER, PeerTask, Side, is_closed};
 use block_seq::BlockSeq;
 use conversation::{Names, Pads, Shared, open_row, serve_connection};
-use pad_core::{Act, PadReply, Recorded, Reply, Request};
-use pad_model::{Name, Refusal, Text};
+use pad_model::Refusal;
 use presence::DEFAULT_PRESENT;
 use relay::{PeerLines, relay_round};
 use sessions::{Accounts, Session};
@@ -20,9 +20,6 @@ use wire_lines::{Fault, Std};
 // The number of phases, in each of which the authors write during a round of the servers.
 const PHASES: u64 = 10;
 
-// The number of edits that each author makes in a phase.
-const EDITS: u64 = 10;
-
 const ACCOUNTS: &[u8] =
     b"author ann t\nauthor a1 t\nauthor a2 t\nauthor a3 t\nauthor a4 t\npeer 1 secret h:1\npeer 2 secret h:2\n";
 
@@ -35,132 +32,6 @@ const BEGINNING: [&str; 6] = [
     r#"{"do":"grant","pad":"p","author":"a3","right":"write"}"#,
     r#"{"do":"grant","pad":"p","author":"a4","right":"write"}"#,
 ];
-
-const HELLOS: [&str; 4] = [
-    r#"{"do":"hello","name":"a1","token":"t"}"#,
-    r#"{"do":"hello","name":"a2","token":"t"}"#,
-    r#"{"do":"hello","name":"a3","token":"t"}"#,
-    r#"{"do":"hello","name":"a4","token":"t"}"#,
-];
-
-const JOIN: &str = r#"{"do":"join","pad":"p"}"#;
-
-// The task of an author, and its seats.
-#[derive(Drop)]
-struct AuthorTask {
-    hello: &'static str,
-    seats: Vec<Seat>,
-}
-
-fn on_pad(alloc: Global, act: Act) -> Result<Request, Refusal> {
-    let pad = Name::from_str(alloc, "p")?;
-    Ok(Request::On { pad, act })
-}
-
-// Returns the edit with this number at a revision of `len` characters. Every tenth is a comment, every other fifth a
-// deletion, and the rest are insertions.
-fn edit_act(alloc: Global, number: u64, rev: u64, len: u64) -> Result<Act, Refusal> {
-    let Some(at) = number.checked_rem(len) else {
-        let text = Text::from_str(alloc, "first")?;
-        return Ok(Act::Insert { rev, at: 0, text });
-    };
-    if number % 10 == 0 {
-        let text = Text::from_str(alloc, "why?")?;
-        return Ok(Act::Comment {
-            rev,
-            at,
-            len: 1,
-            text,
-        });
-    }
-    if number % 5 == 0 {
-        return Ok(Act::Delete { rev, at, len: 1 });
-    }
-    let text = Text::from_str(alloc, "word ")?;
-    Ok(Act::Insert { rev, at, text })
-}
-
-fn ask<P: Pads>(alloc: Global, pads: &mut P, act: Act) -> Result<Reply, Refusal> {
-    let request = on_pad(alloc, act)?;
-    pads.call(alloc, &request)
-}
-
-// Returns the revision and the text of a reply to a read.
-fn text_of(reply: Reply) -> Result<(u64, Text), Refusal> {
-    match reply {
-        Reply::Pad(PadReply::Text { rev, text, .. }) => Ok((rev, text)),
-        _ => Err(NO_ANSWER),
-    }
-}
-
-// Returns the edit that a reply reports.
-fn edit_of(reply: Reply) -> Result<Recorded, Refusal> {
-    match reply {
-        Reply::Pad(PadReply::Made { now, name } | PadReply::Changed { now, name, .. }) => {
-            Ok(Recorded::Edit { name, rev: now })
-        }
-        _ => Err(NO_ANSWER),
-    }
-}
-
-// Reads the text. Returns its revision and its length.
-fn read<P: Pads>(
-    alloc: Global,
-    pads: &mut P,
-    records: &mut Vec<Recorded>,
-) -> Result<(u64, u64), Refusal> {
-    let (rev, text) = text_of(ask(alloc, pads, Act::Text { rev: None })?)?;
-    let len = text.as_slice().len() as u64;
-    records.push(Recorded::Read { rev, text })?;
-    Ok((rev, len))
-}
-
-// Reads the text, and edits it at the revision read.
-fn read_and_edit<P: Pads>(
-    alloc: Global,
-    pads: &mut P,
-    number: u64,
-    records: &mut Vec<Recorded>,
-) -> Result<(), Refusal> {
-    let (rev, len) = read(alloc, pads, records)?;
-    let act = edit_act(alloc, number, rev, len)?;
-    let edit = edit_of(ask(alloc, pads, act)?)?;
-    records.push(edit)?;
-    Ok(())
-}
-
-fn write<P: Pads>(alloc: Global, pads: &mut P, hello: &str) -> Result<Vec<Recorded>, Refusal> {
-    ask_all(alloc, pads, &[hello, JOIN])?;
-    let mut records = Vec::new(alloc);
-    for number in 1..=EDITS {
-        read_and_edit(alloc, pads, number, &mut records)?;
-    }
-    Ok(records)
-}
-
-fn work<R: Wait>(alloc: Global, row: &LoopbackRow<'_, R>, job: AuthorTask) -> AuthorAnswers {
-    let AuthorTask { hello, seats } = job;
-    let mut pads = Shared::new(row, seats, Session::new(alloc));
-    let records = write(alloc, &mut pads, hello);
-    pads.end(alloc);
-    AuthorAnswers {
-        records,
-        seats: pads.seats(),
-    }
-}
-
-// Lets the four authors of a server write at once.
-fn write_all<R: Threads + Wait + Sync>(
-    alloc: Global,
-    row: &LoopbackRow<'_, R>,
-) -> Result<Vec<AuthorAnswers>, Refusal> {
-    let mut jobs = Vec::new(alloc);
-    for hello in HELLOS {
-        let seats = seats_of(row.rt, alloc, row.cells)?;
-        jobs.push(AuthorTask { hello, seats })?;
-    }
-    Ok(thread::map_vec(row.rt, jobs, &|job: AuthorTask| { work(alloc, row, job) })?)
-}
 
 // Makes a round with the peer that listens at this port.
 fn exchange<R: Wait + Net<Stream = TcpStream, Listener = TcpListener>>(

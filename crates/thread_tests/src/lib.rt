@@ -9,6 +9,8 @@ mod commits;
 #[cfg(test)]
 mod conversations;
 #[cfg(test)]
+mod creations;
+#[cfg(test)]
 mod held;
 #[cfg(test)]
 mod kept;

@@ -14,17 +14,14 @@ use std::process::Abort;
 use std::sync::Wait;
 use std::sync::atomic::{AtomicU64, Ordering};
 use std::test::Fail;
-use std::thread;
-use std::thread::Threads;
 use wire_json::read_request;
 
-const FIRST: &str = r#"{"do":"hello","name":"a1","token":"t"}"#;
+/// A request of a1 to log in.
+pub const FIRST: &str = r#"{"do":"hello","name":"a1","token":"t"}"#;
 
-const SECOND: &str = r#"{"do":"hello","name":"a2","token":"t"}"#;
-
-// Counts the steps at cells.
+/// Counts the steps at cells.
 #[derive(Drop)]
-struct Steps {
+pub struct Steps {
     made: AtomicU64,
 }
 
@@ -68,19 +65,20 @@ impl Gate for Steps {
     fn done(&self, _connection: u64) {}
 }
 
-// The pads of a test.
+/// The pads of a test.
 #[derive(Drop)]
-struct TestPads {
+pub struct TestPads {
     accounts: Accounts,
     cells: Vec<SharedPad<BlockSeq>>,
-    gate: Steps,
+    pub gate: Steps,
 }
 
-type StageRow<'a, R> = PadTable<'a, BlockSeq, R, Steps>;
+/// The row of these pads.
+pub type StageRow<'a, R> = PadTable<'a, BlockSeq, R, Steps>;
 
 impl TestPads {
-    // Creates this many cells, each with room for this many seats.
-    fn new(alloc: Global, cells: u32, seats: u32) -> Result<TestPads, Refusal> {
+    /// Creates this many cells, each with room for this many seats.
+    pub fn new(alloc: Global, cells: u32, seats: u32) -> Result<TestPads, Refusal> {
         Ok(TestPads {
             accounts: accounts(alloc)?,
             cells: open_row(alloc, 1, DEFAULT_PRESENT, cells, seats)?,
@@ -88,12 +86,13 @@ impl TestPads {
         })
     }
 
-    // The current names of its pads.
-    fn names<R: Wait>(&self, rt: &R, alloc: Global) -> Result<Names, Refusal> {
+    /// The current names of its pads.
+    pub fn names<R: Wait>(&self, rt: &R, alloc: Global) -> Result<Names, Refusal> {
         Names::fill(rt, alloc, self.cells.as_slice())
     }
 
-    fn row<'a, R: Wait>(&'a self, rt: &'a R, names: &'a Names) -> StageRow<'a, R> {
+    /// Its row, in which pads are found by these names.
+    pub fn row<'a, R: Wait>(&'a self, rt: &'a R, names: &'a Names) -> StageRow<'a, R> {
         PadTable {
             rt,
             cells: self.cells.as_slice(),
@@ -105,8 +104,8 @@ impl TestPads {
     }
 }
 
-// Creates a thread with seats of its own, in a session of an author.
-fn thread_of<'a, R: Wait>(
+/// Creates a thread with seats of its own, in a session of an author.
+pub fn thread_of<'a, R: Wait>(
     alloc: Global,
     row: &'a StageRow<'a, R>,
     hello: &str,
@@ -118,8 +117,8 @@ fn thread_of<'a, R: Wait>(
     Ok(pads)
 }
 
-// Returns the answer to a request on the pad with a number.
-fn asked<P: Pads>(
+/// Returns the answer to a request on the pad with a number.
+pub fn asked<P: Pads>(
     alloc: Global,
     pads: &mut P,
     request: &str,
@@ -129,8 +128,8 @@ fn asked<P: Pads>(
     ask(alloc, pads, line.as_str())
 }
 
-// Returns true if an answer is this refusal.
-fn is_refused(answer: Result<Reply, Refusal>, wanted: Refusal) -> bool {
+/// Returns true if an answer is this refusal.
+pub fn is_refused(answer: Result<Reply, Refusal>, wanted: Refusal) -> bool {
     match answer {
         Ok(_) => false,
         Err(refusal) => refusal == wanted,
@@ -145,8 +144,8 @@ fn is_found<P: Pads>(alloc: Global, pads: &mut P, gate: &Steps, number: u32) -> 
     answer.is_ok() && steps == 1 && asked(alloc, pads, "leave", number).is_ok()
 }
 
-// Returns true if there is no pad with this number, found out without a step.
-fn is_missing<P: Pads>(alloc: Global, pads: &mut P, gate: &Steps, number: u32) -> bool {
+/// Returns true if there is no pad with this number, found out without a step.
+pub fn is_missing<P: Pads>(alloc: Global, pads: &mut P, gate: &Steps, number: u32) -> bool {
     gate.take();
     let answer = asked(alloc, pads, "join", number);
     is_refused(answer, Refusal::NoPad) && gate.take() == 0
@@ -191,121 +190,6 @@ fn a_name_is_found_without_a_walk(rt: HostRuntime) -> Result<(), Fail> {
         is_missing(alloc, &mut reader, &stage.gate, 8),
         "n8 is there"
     );
-    Ok(())
-}
-
-// Creates the pad with a number, and returns the outcome.
-fn creates<R: Wait>(alloc: Global, row: &StageRow<'_, R>, hello: &str, number: u32) -> Created {
-    match thread_of(alloc, row, hello) {
-        Ok(mut pads) => match asked(alloc, &mut pads, "create", number) {
-            Ok(_) => Created::Made,
-            Err(Refusal::PadExists) => Created::Exists,
-            Err(_) => Created::Other,
-        },
-        Err(_) => Created::Other,
-    }
-}
-
-// The outcome of a creation.
-#[derive(Clone, Copy, Debug, PartialEq, Eq)]
-enum Created {
-    Made,
-    Exists,
-    Other,
-}
-
-// Lets two threads create the pads with these numbers at once.
-fn both_create<R: Threads + Wait + Sync>(
-    rt: &R,
-    alloc: Global,
-    numbers: [u32; 2],
-) -> Result<[Created; 2], Refusal> {
-    let stage = TestPads::new(alloc, 3, 4)?;
-    let names = stage.names(rt, alloc)?;
-    both_create_on(rt, alloc, &stage, &names, numbers)
-}
-
-// The same on a stage without pads.
-fn both_create_on<R: Threads + Wait + Sync>(
-    rt: &R,
-    alloc: Global,
-    stage: &TestPads,
-    names: &Names,
-    numbers: [u32; 2],
-) -> Result<[Created; 2], Refusal> {
-    let row = stage.row(rt, names);
-    let (first, second) = thread::join(
-        rt,
-        || creates(alloc, &row, FIRST, numbers[0]),
-        || creates(alloc, &row, SECOND, numbers[1]),
-    );
-    let mut reader = thread_of(alloc, &row, FIRST)?;
-    let mut other = thread_of(alloc, &row, SECOND)?;
-    let there = [
-        asked(alloc, &mut reader, "create", numbers[0]),
-        asked(alloc, &mut other, "create", numbers[1]),
-    ];
-    for answer in there {
-        if !is_refused(answer, Refusal::PadExists) {
-            return Ok([Created::Other, Created::Other]);
-        }
-    }
-    if !is_missing(alloc, &mut reader, &stage.gate, 100) {
-        return Ok([Created::Other, Created::Other]);
-    }
-    Ok([first, second])
-}
-
-#[test]
-fn two_names_are_created_at_once(rt: HostRuntime) -> Result<(), Fail> {
-    for _round in 0..50 {
-        let came = both_create(&rt, rt.alloc(), [1, 2])?;
-        assert!(rt; came == [Created::Made, Created::Made], "came {came:?}");
-    }
-    Ok(())
-}
-
-#[test]
-fn one_name_is_created_once(rt: HostRuntime) -> Result<(), Fail> {
-    for _round in 0..50 {
-        let came = both_create(&rt, rt.alloc(), [7, 7])?;
-        assert!(rt;
-            came == [Created::Made, Created::Exists] || came == [Created::Exists, Created::Made],
-            "came {came:?}"
-        );
-    }
-    Ok(())
-}
-
-// Looks for a pad until another thread has created it, or gives up. Returns whether it was found.
-fn finds_in_time<R: Wait>(alloc: Global, row: &StageRow<'_, R>, number: u32) -> bool {
-    let Ok(mut pads) = thread_of(alloc, row, SECOND) else {
-        return false;
-    };
-    for _turn in 0..1_000_000u32 {
-        match asked(alloc, &mut pads, "join", number) {
-            Err(Refusal::NoPad) => thread::yield_now(),
-            // The pad belongs to another author, who has not shared it.
-            Err(Refusal::Denied) => return true,
-            _ => return false,
-        }
-    }
-    false
-}
-
-#[test]
-fn a_name_is_created_meanwhile(rt: HostRuntime) -> Result<(), Fail> {
-    let alloc = rt.alloc();
-    let stage = TestPads::new(alloc, 3, 2)?;
-    let names = stage.names(&rt, alloc)?;
-    let row = stage.row(&rt, &names);
-    let (found, made) = thread::join(
-        &rt,
-        || finds_in_time(alloc, &row, 5),
-        || creates(alloc, &row, FIRST, 5),
-    );
-    assert!(rt; made == Created::Made, "came {made:?}");
-    assert!(rt; found, "the pad is not found after it was created");
     Ok(())
 }
 

@@ -48,7 +48,7 @@ pub struct Conversation {
 }
 
 impl Model for Conversation {
-    ghost use Rattle.std.specs.Prelude.{◌≤◌, drop, length};
+    ghost use Rattle.std.specs.Prelude.{◌≡◌, ◌⊎◌, ◌<◌, ◌≤◌, drop, length};
     ghost use Rattle.conversation.specs.Talk.{Talk};
 
     ghost Value = { Talk };
@@ -60,7 +60,8 @@ impl Model for Conversation {
       cut = c.cut;
     } };
 
-    ghost invariant = { λ c. c.sent ≤ length c.replies.items };
+    // Once all replies are written, their bytes are given back.
+    ghost invariant = { λ c. (c.sent ≤ length c.replies.items) × ((c.sent ≡ 0) ⊎ (c.sent < length c.replies.items)) };
 }
 
 impl Conversation {

@@ -21,7 +21,7 @@ returns-in-Some-TooLong g c =
               (ap (λ t. t.waiting) c.self.view_is) found,
           (
             put_behind c.self.inside.replies.items c.put.new.replies.items _ _ _ c.self.inside.sent
-                (c.put.ensures ∙ ap (λ l. l ++ c.too_long_line.result.now) c.make_room.ensures.items) c.self.invariant
+                (c.put.ensures ∙ ap (λ l. l ++ c.too_long_line.result.now) c.make_room.ensures.items) c.self.invariant.0
                 (ap (λ t. t.replies) c.self.view_is) (c.too_long_line.ensures ∙ sym (text_of_one (Err refusal.TooLong))),
             c.with-self-inside-in-Some-TooLong.ensures ∙ ap (λ t. counted t.served (Some 0)) c.self.view_is,
           ),
@@ -49,7 +49,7 @@ returns-in-Some-Text-clause-answered g c e =
         line.2,
         (
           put_behind c.self.inside.replies.items c.tell-told.new.replies.items _ _ _ c.self.inside.sent
-              (line.3 ∙ ap (λ l. l ++ texts line.0) c.make_room.ensures.items) c.self.invariant
+              (line.3 ∙ ap (λ l. l ++ texts line.0) c.make_room.ensures.items) c.self.invariant.0
               (ap (λ t. t.replies) c.self.view_is) refl,
           c.with-self-inside.ensures ∙ ap (λ t. counted t.served c.tell-told.result) c.self.view_is,
         ),

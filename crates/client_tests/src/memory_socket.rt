@@ -1,5 +1,5 @@
 //! A socket in memory.
-ghost use Rattle.std.specs.Prelude.{Some};
+ghost use Rattle.std.specs.Prelude.{Some, ⊤};
 
 use event_loop::{ByteSocket, Reach, Settle};
 use std::alloc::Global;
@@ -53,6 +53,8 @@ pub struct Unstored;
 
 impl Settle for Unstored {
     type Settled = Unstored;
+
+    ghost counted = { λ _ _. ⊤ };
 
     fn settle(&self) -> io::Result<u64> {
         Ok(0)

@@ -1,4 +1,6 @@
 //! The condition that replies wait for.
+ghost use Rattle.std.specs.Prelude.{ℕ, IfOk};
+
 use std::io;
 use web_wire::Machines;
 
@@ -19,9 +21,13 @@ pub trait Settle {
     /// The value that `reach` gives, and nothing else does: without one, no reply is written.
     type Settled: Drop + Send;
 
+    /// What was stored was counted, and this was the number. Only `settle` says so.
+    ghost counted: { Self → ℕ → Type 0 };
+
     /// Waits until everything that the replies made so far can reveal is stored by this server, and returns the number that
     /// these replies wait for. It never falls. After an error, no more replies are written and the server ends.
-    fn settle(&self) -> io::Result<u64>;
+    fn settle(&self) -> io::Result<u64>
+        ensures { IfOk result (counted self.now) };
 
     /// Returns the limit up to which replies may go, of those that wait for at most this number; None: none may be
     /// written yet. It does not wait. After an error, no more replies are written and the server ends.

@@ -28,6 +28,15 @@ IsUncounted noted unnoted.Memory = noted ≢ 18446744073709551615
 IsUncounted noted (unnoted.NoCell told) = ⊥
 IsUncounted noted unnoted.TooMany = noted ≡ 18446744073709551615
 
+-- there were this many notes when somebody asked. `Progress::next_step` alone gives this fact
+pub WasCounted : ℕ → Type 0
+WasCounted number = ⊤
+
+-- a number of notes that was asked for
+pub is_counted : (number : ℕ) → WasCounted number
+unfolding WasCounted
+is_counted number = tt
+
 -- nothing is settled any more. A failure alone gives this fact
 pub NothingSettles : Type 0
 NothingSettles = ⊤

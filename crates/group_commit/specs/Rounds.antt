@@ -1,6 +1,7 @@
 -- What each step does to the notes that are counted, and to the round that is under way.
 use Rattle.std.specs.Prelude.{◌≡◌, ◌≢◌, ◌≤◌, ◌<◌, List, get_or, min, ◌+◌, ◌-◌, ℕ, Bool, true, false, MatchBool, if◌then◌else◌, ◌&&◌, ◌==◌, ◌⊎◌, not, [], ◌∷◌, ◌++◌, length}
 use Rattle.std.specs.List.{list_any}
+use Rattle.group_commit.specs.Notes.{WasCounted}
 use Rattle.group_commit.specs.declared.round_state.RoundState.{RoundState}
 use Rattle.group_commit.specs.declared.progress.NextStep.{NextStep}
 
@@ -86,7 +87,8 @@ Goes old new = (old.has_failed ≡ false) × MatchBool old.is_round (Stays old n
 -- what one does who waits for the first so many notes
 abbrev pub IsNextStep : ℕ → RoundState → RoundState → NextStep → Type 0
 IsNextStep asked old new (NextStep.Kept kept) =
-    (old.has_failed ≡ false) × (kept.number ≡ min asked old.noted) × (kept.number ≤ old.kept) × Stays old new
+    (old.has_failed ≡ false) × (kept.number ≡ min asked old.noted) × (kept.number ≤ old.kept)
+    × WasCounted kept.number × Stays old new
 IsNextStep asked old new NextStep.Failed = (old.has_failed ≡ true) × Stays old new
 IsNextStep asked old new NextStep.Works = Goes old new × (new.left.items ≢ [])
 IsNextStep asked old new NextStep.Waits = Goes old new × (new.left.items ≡ [])

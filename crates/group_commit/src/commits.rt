@@ -1,6 +1,6 @@
 //! The notes of all pads of a server, which threads make and wait for.
 ghost use Rattle.std.specs.Prelude.{◌≡◌, IfOk, IfSome, OnErr, OnOk};
-ghost use Rattle.group_commit.specs.Notes.{NothingSettles, WasQueued};
+ghost use Rattle.group_commit.specs.Notes.{NothingSettles, WasCounted, WasQueued};
 
 use crate::appending::Committed;
 use crate::progress::{Job, Kept, NextStep, Progress};
@@ -114,7 +114,9 @@ impl Commits {
 
     /// Waits until everything noted before is on the disk. This thread appends with others meanwhile. After a failure each
     /// call fails.
-    pub fn settle<R: Wait, C: Commit>(&self, rt: &R, files: &C) -> io::Result<Kept> {
+    pub fn settle<R: Wait, C: Commit>(&self, rt: &R, files: &C) -> io::Result<Kept>
+        ensures { IfOk result (λ kept. WasCounted kept.number) }
+    {
         let asked = self.progress.lock(rt).ask();
         let mut looks = 0;
         for _ in rt.forever() {

@@ -189,6 +189,7 @@ impl Progress {
     }
 
     /// Returns the next step of a caller that has asked. If no round is under way and notes are due, one begins.
+    #[tactic(auto, using(crate::specs::Notes::is_counted))]
     pub fn next_step(&mut self, asked: Asked) -> NextStep
         ensures { IsNextStep asked.number self.old.state self.new.state result }
     {

@@ -54,7 +54,7 @@ impl Gate for Announced {
     fn answered<S: Sequence>(
         &self,
         _alloc: Global,
-        _answered: &Answered<'_>,
+        _answered: Answered<'_>,
         _pad: &LockedPad<S>,
     ) {}
 

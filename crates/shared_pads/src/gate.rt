@@ -4,14 +4,16 @@ ghost use Rattle.pad_core.specs.declared.request.Request.{Request};
 ghost use Rattle.shared_pads.specs.Gates.{IsGained, IsLet};
 ghost use Rattle.shared_pads.specs.Seats as seats;
 
-use crate::locked_pad::LockedPad;
+use crate::locked_pad::{LockedPad, Untold};
 use pad_core::{Reply, Request};
 use pad_model::{Items, Op, Refusal, Sequence, Who};
 use std::alloc::Global;
 
 /// A request that was answered at a cell.
-#[derive(Clone, Copy)]
+#[derive(Drop)]
 pub struct Answered<'a> {
+    /// It is told of once.
+    pub call: Untold,
     pub cell: u32,
     pub who: &'a Who,
     pub request: &'a Request,
@@ -41,9 +43,9 @@ pub trait Gate {
 
     /// A request was answered at a cell. Its pad is lent, so its lock is held, and the calls for a cell come in the order
     /// of its steps.
-    fn answered<S: Sequence>(&self, alloc: Global, answered: &Answered<'_>, pad: &LockedPad<S>)
-        requires gained { IsGained (reads self.now) answered.now pad.now }
-        ensures told { told self.now answered.now.cell answered.now.request.now answered.now.answer.now };
+    fn answered<S: Sequence>(&self, alloc: Global, answered: Answered<'_>, pad: &LockedPad<S>)
+        requires gained { IsGained (reads self.now) answered pad.now }
+        ensures told { told self.now answered.entry.cell answered.entry.request.now answered.entry.answer.now };
 
     /// The time of day, in milliseconds since 1970. A gate without a clock says 0.
     fn clock(&self) -> u64 {
@@ -90,12 +92,7 @@ impl Gate for Open {
 
     ghost announced = { λ _ _ _. ⊤ };
 
-    fn answered<S: Sequence>(
-        &self,
-        _alloc: Global,
-        _answered: &Answered<'_>,
-        _pad: &LockedPad<S>,
-    ) {}
+    fn answered<S: Sequence>(&self, _alloc: Global, _answered: Answered<'_>, _pad: &LockedPad<S>) {}
 
     fn reads_operations(&self) -> bool {
         false

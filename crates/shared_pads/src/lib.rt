@@ -10,6 +10,6 @@ mod shared_pad;
 mod sums;
 
 pub use gate::{Answered, Gate, Open};
-pub use locked_pad::LockedPad;
+pub use locked_pad::{LockedPad, Untold};
 pub use seat::{LastEdit, MAX_SEATS, Seat, Tally};
 pub use shared_pad::{Closed, SharedPad};

@@ -18,6 +18,13 @@ use sessions::{Room, Session};
 use std::alloc::Global;
 use std::marker::Model;
 
+/// A call of a pad that its gate was not told of yet. Each call makes one, and `Gate::answered` takes it, so no gate is
+/// told of a call twice.
+#[derive(Debug, Drop)]
+pub struct Untold {
+    _call: (),
+}
+
 /// A pad, the revision that it had when it came under its lock, and the tally of each seat. It has room for all seats
 /// that it may make.
 #[derive(Drop)]
@@ -240,24 +247,26 @@ impl<S: Sequence> LockedPad<S> {
         seat: &mut Seat,
         session: &mut Session,
         request: &Request,
-    ) -> Result<Option<Reply>, Refusal>
+    ) -> (Result<Option<Reply>, Refusal>, Untold)
         requires { IsAsked request.now }
         ensures who { session.new.who ≡ session.old.who }
-        ensures called { Called seat.old session.old.who request.now session.old.rooms result
+        ensures called { Called seat.old session.old.who request.now session.old.rooms result.0
             seat.new session.new.rooms }
         ensures known { IsKnown self.old seat.old
-            → Counts self.old seat.old session.old.who request.now session.old.rooms result seat.new
+            → Counts self.old seat.old session.old.who request.now session.old.rooms result.0 seat.new
             session.new.rooms self.new }
         ensures unknown { ¬ IsKnown self.old seat.old
-            → (result ≡ Err Refusal.SeatsOut) × (seat.new ≡ seat.old)
+            → (result.0 ≡ Err Refusal.SeatsOut) × (seat.new ≡ seat.old)
             × (session.new.rooms ≡ session.old.rooms) × (self.new ≡ self.old) }
         ensures made { (length self.old.pad.log ≤ length self.new.pad.log)
-            × Tells request.now result (length self.new.pad.log - length self.old.pad.log) }
+            × Tells request.now result.0 (length self.new.pad.log - length self.old.pad.log) }
     {
+        let untold = Untold { _call: () };
         if !self.knows(seat) {
-            return Err(Refusal::SeatsOut);
+            return (Err(Refusal::SeatsOut), untold);
         }
-        self.visit(alloc, seat, session, request)
+        let answer = self.visit(alloc, seat, session, request);
+        (answer, untold)
     }
 
     /// A call of a seat that is known here.

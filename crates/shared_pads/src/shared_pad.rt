@@ -96,13 +96,14 @@ impl<S: Sequence> SharedPad<S> {
         kept.tick(now);
         let at = kept.time_now();
         let before = kept.revision();
-        let answer = kept.call(alloc, seat, session, request);
+        let (answer, call) = kept.call(alloc, seat, session, request);
         let more = if gate.reads_operations() {
             kept.since(alloc, before)
         } else {
             Ok(Items::new(alloc))
         };
         let answered = Answered {
+            call,
             cell: self.cell,
             who: session.who(),
             request,
@@ -112,7 +113,7 @@ impl<S: Sequence> SharedPad<S> {
             at,
             more: &more,
         };
-        gate.answered(alloc, &answered, &*kept);
+        gate.answered(alloc, answered, &*kept);
         gate.inside(self.cell);
         answer
     }

@@ -1,8 +1,8 @@
 //! The files of a server's pads while it runs: each answer is noted under its pad's lock, and synced before its reply
 //! is written.
-ghost use Rattle.std.specs.Prelude.{◌≡◌, ◌≤◌, ◌⊎◌, true, IfErr, OnErr, OnOk};
+ghost use Rattle.std.specs.Prelude.{◌≡◌, ◌≤◌, ◌⊎◌, true, IfErr, IfOk, OnErr, OnOk};
 ghost use Rattle.group_commit.specs.Confirmations.{is_unasked};
-ghost use Rattle.group_commit.specs.Notes.{NothingSettles};
+ghost use Rattle.group_commit.specs.Notes.{NothingSettles, WasCounted};
 ghost use Rattle.store_files.specs.Noting.{IsKept};
 
 use crate::appending::Files;
@@ -112,21 +112,22 @@ impl Keeper {
     /// Notes the records that a request leaves to be kept: a line for each, which the thread that settles appends to
     /// the pad's file. It is called under the pad's lock, so that the lines have the order of the steps. A failure is
     /// logged, and from then on nothing is settled.
-    pub fn note<R: Wait>(&self, rt: &R, alloc: Global, told: &Answered<'_>)
-        ensures { IsKept told.now }
+    pub fn note<R: Wait>(&self, rt: &R, alloc: Global, told: Answered<'_>)
+        ensures { IsKept told.entry }
     {
+        let has_named_nothing = self.has_named_nothing(&told);
         if let Err(cause) = self.put(rt, alloc, told) {
             self.commits.fail(rt);
             error!(ServerLog(&self.files); "the store {} cannot be written: {cause}", self.folder);
         }
-        if self.has_named_nothing(told) {
+        if has_named_nothing {
             self.spares.release(rt);
         }
     }
 
     // Notes the records of a request, if it leaves any.
-    fn put<R: Wait>(&self, rt: &R, alloc: Global, told: &Answered<'_>) -> Result<(), Unnoted>
-        ensures { OnOk result (IsKept told.now) }
+    fn put<R: Wait>(&self, rt: &R, alloc: Global, told: Answered<'_>) -> Result<(), Unnoted>
+        ensures { OnOk result (IsKept told.entry) }
     {
         let Ok(more) = told.more else {
             return Err(Unnoted::Memory);
@@ -253,7 +254,9 @@ impl Keeper {
 
     /// Waits until everything noted before is synced, or fails, and returns the number of these notes. After it, `look`
     /// returns how many of them may be revealed.
-    pub fn sync<R: Wait>(&self, rt: &R) -> io::Result<u64> {
+    pub fn sync<R: Wait>(&self, rt: &R) -> io::Result<u64>
+        ensures { IfOk result WasCounted }
+    {
         let kept = self.commits.settle(rt, &Files::new(rt, self))?;
         Ok(kept.number())
     }

@@ -48,21 +48,26 @@ impl<R: Wait + Clock> Gate for PadGate<'_, R> {
 
     ghost announced = { λ _ _ _. ⊤ };
 
-    fn answered<S: Sequence>(&self, alloc: Global, answered: &Answered<'_>, _pad: &LockedPad<S>)
-        ensures kept { self.now.keeper ≢ None → IsKept answered.now }
+    fn answered<S: Sequence>(&self, alloc: Global, answered: Answered<'_>, _pad: &LockedPad<S>)
+        ensures kept { self.now.keeper ≢ None → IsKept answered.entry }
     {
+        let (cell, made) = (answered.cell, answered.made);
+        let is_creation = matches!(
+            (answered.request, answered.answer),
+            (Request::Create { .. }, Ok(Some(_)))
+        );
         if let Some(keeper) = self.keeper {
             keeper.note(self.rt, alloc, answered);
         }
-        if answered.made > 0 {
-            self.hub.counts().operations.add(answered.made);
-            self.hub.publish(answered.cell, answered.made);
-            self.exchange.note(answered.cell);
+        if made > 0 {
+            self.hub.counts().operations.add(made);
+            self.hub.publish(cell, made);
+            self.exchange.note(cell);
         }
         // A peer may have the pad already.
-        if let (Request::Create { .. }, Ok(Some(_))) = (answered.request, answered.answer) {
+        if is_creation {
             self.hub.counts().pads.add_one();
-            self.exchange.note(answered.cell);
+            self.exchange.note(cell);
             self.exchange.ring(self.rt);
         }
     }

@@ -1,6 +1,7 @@
 //! The condition that the workers' replies wait for.
 ghost use Rattle.std.specs.Prelude.{◌≡◌, ◌≢◌, true, IfOk, IfSome, MatchOption};
 ghost use Rattle.group_commit.specs.Confirmations.{is_unasked};
+ghost use Rattle.group_commit.specs.Notes.{WasCounted};
 ghost use Rattle.store_files.specs.Settling.{IsSaidOf};
 
 use event_loop::{Hub, Reach, Settle};
@@ -27,6 +28,8 @@ impl<'a, R> Settling<'a, R> {
 
 impl<R: Wait + Clock> Settle for Settling<'_, R> {
     type Settled = Option<Promised>;
+
+    ghost counted = { λ settling number. MatchOption settling.keeper (number ≡ 0) (λ _. WasCounted number) };
 
     fn settle(&self) -> io::Result<u64> {
         match self.keeper {

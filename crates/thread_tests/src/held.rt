@@ -80,7 +80,7 @@ impl<R: Clock> Gate for FirstCellHeld<'_, R> {
     fn answered<S: Sequence>(
         &self,
         _alloc: Global,
-        _answered: &Answered<'_>,
+        _answered: Answered<'_>,
         _pad: &LockedPad<S>,
     ) {}
 
@@ -211,7 +211,7 @@ impl<R: Clock> Gate for FirstConnectionHeld<'_, R> {
     fn answered<S: Sequence>(
         &self,
         _alloc: Global,
-        _answered: &Answered<'_>,
+        _answered: Answered<'_>,
         _pad: &LockedPad<S>,
     ) {}
 

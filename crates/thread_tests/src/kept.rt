@@ -30,7 +30,7 @@ impl Gate for Disk {
     fn answered<S: Sequence>(
         &self,
         _alloc: Global,
-        _answered: &Answered<'_>,
+        _answered: Answered<'_>,
         _pad: &LockedPad<S>,
     ) {}
 

@@ -48,7 +48,7 @@ impl Gate for Steps {
     fn answered<S: Sequence>(
         &self,
         _alloc: Global,
-        _answered: &Answered<'_>,
+        _answered: Answered<'_>,
         _pad: &LockedPad<S>,
     ) {}
 

@@ -9,7 +9,7 @@ import re
 from harness import ROOT, Test, want
 
 NAMED = re.compile(r"From (crates/(\w+)/src/[\w/]+\.rt)\.")
-WITHOUT_CODE = ["federation_laws"]
+WITHOUT_CODE = ["federation_laws", "standby_laws"]
 
 
 def libraries():

@@ -1,0 +1,3 @@
+-- The definitions that the contracts cite, by topic.
+pub mod Servers
+pub mod Laws

@@ -1,4 +1,4 @@
--- What a crash leaves of either server is what an event leaves.
+-- Each crash is an event: the files that it leaves are those with which a server starts again.
 use Rattle.std.proofs.Common.{◌≡◌, ℕ, ◌≤◌, List, [], ◌∷◌, ◌++◌, length, take, Ok, refl, sym, ap, ◌∙◌, append-nil}
 use Rattle.std.proofs.lemmas.List.{take_at}
 use Rattle.pad_core.specs.Machine.{Machine}
@@ -11,7 +11,7 @@ use Rattle.file_copies.specs.Laws.{HasTaken, LogLaw, Stretch, completed}
 use Rattle.standby_laws.specs.Servers.{MayHappen, Servers, after}
 use Rattle.standby_laws.specs.Servers.Event.{restarts, resumes}
 
--- the main server, by the law of crashes
+-- the main server starts again with what is read, by the law of crashes
 pub main_restarts : CrashLaw → (now : Servers) (replica present : ℕ) (name : List ℕ) (entries : List StoreLine)
     (m : Machine) (bytes : List ℕ) →
     Life replica present (records_in entries) m → IsFile name entries → Say entries now.texts →
@@ -27,7 +27,7 @@ main_restarts crash now replica present name entries m bytes life file says may 
       λ number most. let found = left.4 number most in (found.0, found.3, found.2),
     )
 
--- the standby, by the law of logs
+-- the standby starts again with a completed copy, by the law of logs
 pub standby_resumes : LogLaw → (now : Servers) (synced left logged rest : List ℕ) (log : List Stretch) →
     now.copy ≡ logged ++ rest → HasTaken synced log logged → now.kept ≤ length logged → (log ≡ [] → left ≡ []) →
     (bytes : ℕ) × MayHappen (resumes bytes) now × (completed (synced ++ left) log ≡ (after (resumes bytes) now).copy)

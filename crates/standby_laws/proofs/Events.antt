@@ -1,4 +1,4 @@
--- What each event keeps, and so any events.
+-- The invariant of the two servers: each event keeps it.
 use Rattle.std.proofs.Common.{◌≡◌, ◌⊎◌, inl, inr, ℕ, ◌≤◌, ◌==◌, ◌≢◌, eqb, true, false}
 use Rattle.std.proofs.Common.{List, [], ◌∷◌, ◌++◌, length, take, drop, refl, sym, ap, ◌∙◌, subst, arith}
 use Rattle.std.specs.List.{Contains}
@@ -15,15 +15,15 @@ use Rattle.standby_laws.proofs.Files.{stays_below, stays_on}
 use Rattle.standby_laws.proofs.Holding.{EndsLine, Holds, IsAt, at_stays, contains_first, contains_none, ends_at}
 use Rattle.standby_laws.proofs.Holding.{ends_cut, ends_grown, is_at, taken_front}
 
--- the main server's file goes on from what is synced, and no less is confirmed
+-- the main server's file keeps its synced bytes, and no fewer bytes are confirmed
 abbrev pub GoesOn : Servers → Servers → Type 0
 GoesOn old new = Stays (file_of old.texts) old.synced (file_of new.texts) new.synced × (old.confirmed ≤ new.confirmed)
 
--- what is synced ends with a line, so it is no more than the file has
+-- synced bytes end with a line, so they are no more than the file has
 pub synced_short : (texts : List (List ℕ)) (synced : ℕ) → EndsLine texts synced → synced ≤ length (file_of texts)
 synced_short texts synced (lines, few, is) = omega (arith, is, lines_short lines texts)
 
--- what is synced stays when the main server writes more
+-- synced bytes stay when the main server writes more
 grown_stays : (texts more : List (List ℕ)) (synced : ℕ) → synced ≤ length (file_of texts) →
     Stays (file_of texts) synced (file_of (texts ++ more)) synced
 grown_stays texts more synced short = (
@@ -32,7 +32,7 @@ grown_stays texts more synced short = (
       ∙ ap (take synced) (lines_grown texts more),
 )
 
--- each event lets the main server's file and what is confirmed go on
+-- each event keeps the synced bytes of the main server, and the confirmed ones
 goes_on : (event : Event) (old : Servers) → Holds old → MayHappen event old → GoesOn old (after event old)
 goes_on (writes texts) old h may =
     (grown_stays old.texts texts old.synced (synced_short old.texts old.synced h.ends), omega arith)
@@ -45,7 +45,7 @@ goes_on (keeps bytes) old h may = ((omega arith, refl), omega arith)
 goes_on says old h may = ((omega arith, refl), omega arith)
 goes_on (resumes left) old h may = ((omega arith, refl), omega arith)
 
--- what holds of the standby, when the main server's file goes on from what is synced
+-- the invariant is kept when the main server's file changes after its synced bytes
 main_goes : (texts : List (List ℕ)) (synced : ℕ) (old : Servers) → Holds old → EndsLine texts synced →
     Stays (file_of old.texts) old.synced (file_of texts) synced → Holds (record old { texts = texts; synced = synced })
 main_goes texts synced old h ends stays = record {
@@ -59,7 +59,7 @@ main_goes texts synced old h ends stays = record {
   confirmed = h.confirmed;
 }
 
--- what holds when the copy changes, and still has what is synced of it
+-- the invariant is kept when the copy changes after its synced bytes
 copy_goes : (copy : List ℕ) (old : Servers) → Holds old → IsFront (file_of old.texts) copy → length copy ≤ old.synced →
     old.kept ≤ length copy → Holds (record old { copy = copy })
 copy_goes copy old h front copied kept = record {
@@ -72,9 +72,9 @@ copy_goes copy old h front copied kept = record {
   confirmed = h.confirmed;
 }
 
--- a stretch that arrives where the copy ends is taken, and any other one changes nothing
-arrives_goes : (stretch : Stretch) (old : Servers) → Holds old → Contains old.sent stretch →
-    Holds (record old { copy = with_stretch old.copy stretch })
+-- a stretch arrives: it continues the copy, or changes nothing
+arrives_goes : (stretch : Stretch) (old : Servers) → Holds old → MayHappen (arrives stretch) old →
+    Holds (after (arrives stretch) old)
 arrives_goes stretch old h has = at (eqb_tells stretch.from (length old.copy))
   where
     longer : IsFront (file_of old.texts) (old.copy ++ stretch.lines)
@@ -92,13 +92,10 @@ arrives_goes stretch old h has = at (eqb_tells stretch.from (length old.copy))
     at (inr (is, other)) = subst (λ (copy : List ℕ). Holds (record old { copy = copy }))
         (sym (cond-false (stretch.from == length old.copy) (old.copy ++ stretch.lines) old.copy is)) h
 
--- what holds still holds after each event
-holds_on : (event : Event) (old : Servers) → Holds old → MayHappen event old → Holds (after event old)
-holds_on (writes texts) old h may = main_goes (old.texts ++ texts) old.synced old h
-    (ends_grown old.texts texts old.synced h.ends) (goes_on (writes texts) old h may).0
-holds_on (syncs lines) old h may = main_goes old.texts (length (file_of (take lines old.texts))) old h
-    (ends_at lines old.texts) (goes_on (syncs lines) old h may).0
-holds_on (sends stretch) old h may = record {
+-- the main server sends a stretch
+sends_goes : (stretch : Stretch) (old : Servers) → Holds old → MayHappen (sends stretch) old →
+    Holds (after (sends stretch) old)
+sends_goes stretch old h may = record {
   ends = h.ends;
   stretches = λ other has. sent other (contains_first stretch other old.sent has);
   front = h.front;
@@ -112,6 +109,30 @@ holds_on (sends stretch) old h may = record {
     sent other (inl is) = subst (IsAt (file_of old.texts) old.synced) is
         (is_at (file_of old.texts) old.synced stretch may)
     sent other (inr has) = h.stretches other has
+
+-- the standby sends a mark
+says_goes : (old : Servers) → Holds old → Holds (after says old)
+says_goes old h = record {
+  ends = h.ends;
+  stretches = h.stretches;
+  front = h.front;
+  copied = h.copied;
+  kept = h.kept;
+  said = λ mark has. marked mark (contains_first old.kept mark old.marks has);
+  confirmed = h.confirmed;
+}
+  where
+    marked : (mark : ℕ) → (old.kept ≡ mark) ⊎ Contains old.marks mark → mark ≤ old.kept
+    marked mark (inl is) = omega (arith, is)
+    marked mark (inr has) = h.said mark has
+
+-- each event keeps the invariant
+holds_on : (event : Event) (old : Servers) → Holds old → MayHappen event old → Holds (after event old)
+holds_on (writes texts) old h may = main_goes (old.texts ++ texts) old.synced old h
+    (ends_grown old.texts texts old.synced h.ends) (goes_on (writes texts) old h may).0
+holds_on (syncs lines) old h may = main_goes old.texts (length (file_of (take lines old.texts))) old h
+    (ends_at lines old.texts) (goes_on (syncs lines) old h may).0
+holds_on (sends stretch) old h may = sends_goes stretch old h may
 holds_on (hears mark) old h may = record {
   ends = h.ends;
   stretches = h.stretches;
@@ -133,24 +154,12 @@ holds_on (keeps bytes) old h (more, few) = record {
   said = λ mark has. omega (arith, more, h.said mark has);
   confirmed = omega (arith, more, h.confirmed);
 }
-holds_on says old h may = record {
-  ends = h.ends;
-  stretches = h.stretches;
-  front = h.front;
-  copied = h.copied;
-  kept = h.kept;
-  said = λ mark has. marked mark (contains_first old.kept mark old.marks has);
-  confirmed = h.confirmed;
-}
-  where
-    marked : (mark : ℕ) → (old.kept ≡ mark) ⊎ Contains old.marks mark → mark ≤ old.kept
-    marked mark (inl is) = omega (arith, is)
-    marked mark (inr has) = h.said mark has
+holds_on says old h may = says_goes old h
 holds_on (resumes left) old h may = copy_goes (take left old.copy) old h
     (front_cut (file_of old.texts) old.copy left h.front)
     (omega (arith, h.copied, length-take left old.copy)) (omega (arith, may, h.kept, length-take left old.copy))
 
--- and at the beginning
+-- the invariant holds at the beginning
 pub holds_first : Holds beginning
 holds_first = record {
   ends = (0, omega arith, refl);
@@ -162,13 +171,13 @@ holds_first = record {
   confirmed = omega arith;
 }
 
--- so it holds after any events
+-- it holds after any events
 pub holds_after : (events : List Event) (old new : Servers) → Holds old → Leads old events new → Holds new
 holds_after [] old new h is = subst Holds (sym is) h
 holds_after (event ∷ events) old new h (may, leads) =
     holds_after events (after event old) new (holds_on event old h may) leads
 
--- and any events let the main server's file and what is confirmed go on
+-- any events keep the synced bytes of the main server, and the confirmed ones
 pub goes_after : (events : List Event) (old new : Servers) → Holds old → Leads old events new → GoesOn old new
 goes_after [] old new h is = subst (GoesOn old) (sym is) ((omega arith, refl), omega arith)
 goes_after (event ∷ events) old new h (may, leads) =
@@ -181,7 +190,7 @@ goes_after (event ∷ events) old new h (may, leads) =
       omega (arith, low, high),
     )
 
--- what the law of the standby says
+-- the law of the standby
 pub copied : (events : List Event) (now : Servers) → Leads beginning events now → IsCopied now
 copied events now leads = at (holds_after events beginning now holds_first leads)
   where
@@ -210,7 +219,7 @@ copied events now leads = at (holds_after events beginning now holds_first leads
               ∙ lines_front whole now.texts)),
         )
 
--- what lasts
+-- the law of what lasts: confirmed bytes stay
 pub lasting : (earlier events : List Event) (old new : Servers) → Leads beginning earlier old → Leads old events new →
     (old.confirmed ≤ new.confirmed)
     × (take old.confirmed (file_of new.texts) ≡ take old.confirmed (file_of old.texts))

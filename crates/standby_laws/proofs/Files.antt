@@ -1,4 +1,4 @@
--- The bytes of a file's first lines, and what keeps the first bytes of a file.
+-- The first lines of a file, and its first bytes.
 use Rattle.std.proofs.Common.{◌≡◌, ℕ, zero, suc, ◌≤◌, min, List, [], ◌∷◌, ◌++◌, length, take, refl, sym, ap, ◌∙◌, subst}
 use Rattle.std.proofs.Common.{arith, append_assoc}
 use Rattle.std.proofs.lemmas.List.{length-take, take-take, take_at, take_min}
@@ -47,22 +47,22 @@ lines_grown texts more = subst
     (λ (ts : List (List ℕ)). take (length (file_of ts)) (file_of (texts ++ more)) ≡ file_of ts)
     (take_at texts more (length texts) refl) (lines_front (length texts) (texts ++ more))
 
--- the first so many bytes of a file are still there in another, which may have more of them synced
+-- the synced bytes of a file are the first ones of another file, which has no fewer synced
 abbrev pub Stays : List ℕ → ℕ → List ℕ → ℕ → Type 0
 Stays file synced next more = (synced ≤ more) × (take synced next ≡ take synced file)
 
--- what stays of what stays
+-- bytes that stay twice stay
 pub stays_on : (a b c : List ℕ) (i j k : ℕ) → Stays a i b j → Stays b j c k → Stays a i c k
 stays_on a b c i j k (low, same) (high, more) =
     (omega (arith, low, high), sym (take-take i j c low) ∙ (ap (take i) more ∙ (take-take i j b low ∙ same)))
 
--- fewer first bytes stay with more
+-- if first bytes stay, fewer of them stay
 pub stays_below : (file next : List ℕ) (few many : ℕ) → few ≤ many → take many next ≡ take many file →
     take few next ≡ take few file
 stays_below file next few many low same = sym (take-take few many next low)
     ∙ (ap (take few) same ∙ take-take few many file low)
 
--- bytes are the first ones of a file
+-- bytes are the first bytes of a file
 abbrev pub IsFront : List ℕ → List ℕ → Type 0
 IsFront file bytes = bytes ≡ take (length bytes) file
 
@@ -73,7 +73,7 @@ front_cut file copy left is = sym (take_min left copy)
     ∙ (take-take (min left (length copy)) (length copy) file (omega arith)
     ∙ ap (λ (n : ℕ). take n file) (sym (length-take left copy))))
 
--- first bytes of what stays are first bytes of what it became
+-- synced first bytes of a file are first bytes of the other one
 pub front_stays : (file next copy : List ℕ) (synced more : ℕ) → Stays file synced next more → IsFront file copy →
     length copy ≤ synced → IsFront next copy
 front_stays file next copy synced more (low, same) is short =

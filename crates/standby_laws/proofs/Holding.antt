@@ -1,4 +1,4 @@
--- What holds of the two servers after any events.
+-- The invariant of the two servers, and its parts.
 use Rattle.std.proofs.Common.{◌≡◌, ◌⊎◌, inl, inr, ℕ, zero, suc, ◌+◌, ◌≤◌, min}
 use Rattle.std.proofs.Common.{List, [], ◌∷◌, ◌++◌, length, take, sym, ap, ◌∙◌, arith, append_assoc}
 use Rattle.std.specs.List.{Contains}
@@ -8,17 +8,17 @@ use Rattle.file_copies.specs.Laws.{Stretch}
 use Rattle.standby_laws.specs.Servers.{IsWithin, Servers}
 use Rattle.standby_laws.proofs.Files.{IsFront, Stays, lines_front, lines_short, stays_below}
 
--- what is synced of the main server's file ends with a line
+-- the synced bytes of the main server's file end with a line
 abbrev pub EndsLine : List (List ℕ) → ℕ → Type 0
 EndsLine texts synced = (lines : ℕ) × (lines ≤ length texts) × (synced ≡ length (file_of (take lines texts)))
 
--- a stretch stands in a file at its place, within so many first bytes
+-- a stretch stands in a file at its place, within the synced bytes
 abbrev pub IsAt : List ℕ → ℕ → Stretch → Type 0
 IsAt file synced stretch =
     (before : List ℕ) × (length before ≡ stretch.from) × (stretch.from + length stretch.lines ≤ synced)
     × (take (stretch.from + length stretch.lines) file ≡ before ++ stretch.lines)
 
--- what holds of the two servers after any events
+-- the invariant of the two servers
 pub record Holds (now : Servers) : Type 0 where
   pub ends : EndsLine now.texts now.synced
   pub stretches : (stretch : Stretch) → Contains now.sent stretch → IsAt (file_of now.texts) now.synced stretch
@@ -35,7 +35,7 @@ pub contains_first : {X : Type 0} (y x : X) (xs : List X) → Contains (y ∷ xs
 contains_first y x xs (zero, few, is) = inl is
 contains_first y x xs (suc k, few, is) = inr (k, omega (arith, few), is)
 
--- so many first lines end with a line
+-- the bytes of the first lines end with a line
 pub ends_at : (lines : ℕ) (texts : List (List ℕ)) → EndsLine texts (length (file_of (take lines texts)))
 ends_at lines texts = (
   min lines (length texts),
@@ -43,7 +43,7 @@ ends_at lines texts = (
   ap (λ (ts : List (List ℕ)). length (file_of ts)) (sym (take_min lines texts)),
 )
 
--- where the sync ends with a line, it stays there when the main server writes more, and when it keeps what was synced
+-- synced bytes still end with a line when the main server writes more, and when it crashes and keeps them
 pub ends_grown : (texts more : List (List ℕ)) (synced : ℕ) → EndsLine texts synced → EndsLine (texts ++ more) synced
 ends_grown texts more synced (lines, few, is) = (
   lines,
@@ -72,7 +72,7 @@ ends_cut texts synced left has (lines, few, is) = (ends, (omega arith, same))
     same = ap (take synced) (sym (lines_front left texts))
         ∙ take-take synced (length (file_of (take left texts))) (file_of texts) short
 
--- a stretch that is sent stands there
+-- a stretch that is sent stands in the file at its place
 pub is_at : (file : List ℕ) (synced : ℕ) (stretch : Stretch) → IsWithin file synced stretch → IsAt file synced stretch
 is_at file synced stretch (before, rest, is, place, short) = (
   before,
@@ -92,7 +92,7 @@ at_stays file next synced more stretch (low, same) (before, place, short, is) = 
   stays_below file next (stretch.from + length stretch.lines) synced short same ∙ is,
 )
 
--- a copy with a stretch that stands in the file where the copy ends
+-- a copy is continued by a stretch that stands in the file where the copy ends
 pub taken_front : (file copy : List ℕ) (synced : ℕ) (stretch : Stretch) → IsFront file copy → IsAt file synced stretch →
     stretch.from ≡ length copy →
     IsFront file (copy ++ stretch.lines) × (length (copy ++ stretch.lines) ≤ synced)

@@ -1,4 +1,4 @@
--- What a server makes of what a crash leaves of the copy.
+-- A server that starts on the copy, whatever a crash left of it.
 use Rattle.std.proofs.Common.{◌≡◌, ℕ, zero, suc, ◌≤◌, ◌<◌, List, length, take, refl, sym, ap, ◌∙◌, arith}
 use Rattle.std.proofs.lemmas.List.{length-take, take-take}
 use Rattle.pad_core.specs.Machine.{Machine}
@@ -12,7 +12,7 @@ use Rattle.standby_laws.proofs.Events.{holds_after, holds_first}
 use Rattle.standby_laws.proofs.Files.{front_cut, lines_short}
 use Rattle.standby_laws.proofs.Holding.{Holds}
 
--- what a crash leaves of the copy could be left of the main server's file, had so many bytes of it been synced
+-- a crash that leaves some bytes of the copy could leave them of the main server's file, with as many of it synced
 left_of_file : (now : Servers) (bytes : List ℕ) → Holds now →
     MayLeave (record { written = now.copy; synced = now.kept }) now.texts bytes →
     MayLeave (record { written = file_of now.texts; synced = now.kept }) now.texts bytes
@@ -28,7 +28,7 @@ left_of_file now bytes h (cut left kept is first) = cut (length bytes) (omega (
     same = ap length (sym is)
 left_of_file now bytes h (torn lines tail kept some is none) = torn lines tail kept some is none
 
--- what the law of promotion says, by the law of crashes
+-- the law of promotion, by the law of crashes
 pub promoted : CrashLaw → (events : List Event) (now : Servers) (replica present : ℕ) (name : List ℕ)
     (entries : List StoreLine) (m : Machine) (bytes : List ℕ) →
     Leads beginning events now →
@@ -55,7 +55,7 @@ promoted crash events now replica present name entries m bytes leads life file s
           },
         )
 
--- where not even the first line is left of the copy, nothing is confirmed
+-- where not even the first line is left of the copy, no line is confirmed
 pub none_confirmed : (events : List Event) (now : Servers) (left : ℕ) → Leads beginning events now → now.kept ≤ left →
     length (take left now.copy) < length (file_of (take 1 now.texts)) → HasConfirmed now 0
 none_confirmed events now left leads kept short = at (holds_after events beginning now holds_first leads)

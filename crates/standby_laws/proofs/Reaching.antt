@@ -1,11 +1,11 @@
--- Events that lead to any copy of any file.
+-- Events that lead to each copy of each file.
 use Rattle.std.proofs.Common.{◌≡◌, ℕ, ◌≤◌, max, List, [], ◌∷◌, ◌++◌, length, take, refl, arith}
 use Rattle.store_format.specs.Laws.{file_of}
 use Rattle.file_copies.specs.Laws.{Stretch}
 use Rattle.standby_laws.specs.Servers.{Event, Leads, Servers, beginning}
 use Rattle.standby_laws.specs.Servers.Event.{arrives, hears, keeps, says, sends, syncs, writes}
 
--- all of the file that the copy has, as one stretch
+-- the whole copy as one stretch of the file
 whole_copy : List ℕ → Stretch
 whole_copy copy = record { from = 0; lines = copy }
 
@@ -15,7 +15,7 @@ course : List (List ℕ) → ℕ → List ℕ → ℕ → ℕ → List Event
 course texts lines copy kept confirmed = writes texts ∷ syncs lines ∷ sends (whole_copy copy)
     ∷ arrives (whole_copy copy) ∷ keeps confirmed ∷ says ∷ hears confirmed ∷ keeps kept ∷ []
 
--- where they lead
+-- the state to which they lead
 reached : List (List ℕ) → ℕ → List ℕ → ℕ → ℕ → Servers
 reached texts lines copy kept confirmed = record {
   texts = texts;
@@ -27,7 +27,7 @@ reached texts lines copy kept confirmed = record {
   confirmed = max 0 confirmed;
 }
 
--- any such copy is reached
+-- the law of what is reached
 pub reaches : (texts : List (List ℕ)) (lines : ℕ) (copy rest : List ℕ) (kept confirmed : ℕ) →
     file_of texts ≡ copy ++ rest → length copy ≤ length (file_of (take lines texts)) → kept ≤ length copy →
     confirmed ≤ kept →

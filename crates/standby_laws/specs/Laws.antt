@@ -12,38 +12,38 @@ use Rattle.file_copies.specs.Laws.{HasTaken, Stretch, completed}
 use Rattle.standby_laws.specs.Servers.{Event, Leads, MayHappen, Servers, after, beginning}
 use Rattle.standby_laws.specs.Servers.Event.{restarts, resumes}
 
--- the copy is right: it has the first bytes of the main server's file, with every confirmed line
+-- the copy has the first bytes of the main server's file, with every confirmed line
 pub record IsCopied (now : Servers) : Type 0 where
-  -- the copy has the first bytes of the main server's file
+  -- it has the first bytes of the main server's file
   pub front : (rest : List ℕ) × (file_of now.texts ≡ now.copy ++ rest)
   -- and every confirmed line, whole
   pub lines : (whole : ℕ) → length (file_of (take whole now.texts)) ≤ now.confirmed →
       (rest : List ℕ) × (now.copy ≡ file_of (take whole now.texts) ++ rest)
-  -- what is confirmed is synced at the standby, and what the standby has is synced at the main server
+  -- confirmed bytes are synced at the standby, and the bytes of the copy at the main server
   pub confirmed : now.confirmed ≤ now.kept
   pub kept : now.kept ≤ length now.copy
   pub copied : length now.copy ≤ now.synced
   pub synced : now.synced ≤ length (file_of now.texts)
 
--- whatever events happen, the copy is right
+-- after any events, the copy is right: it has the first bytes of the main server's file, with every confirmed line
 abbrev pub StandbyLaw : Type 0
 StandbyLaw = (events : List Event) (now : Servers) → Leads beginning events now → IsCopied now
 
--- whatever happens later, what was confirmed stays so, and the main server's file stays as it was there
+-- whatever happens later, confirmed bytes stay confirmed, and the main server's file stays the same there
 abbrev pub LastingLaw : Type 0
 LastingLaw =
     (earlier later : List Event) (old new : Servers) → Leads beginning earlier old → Leads old later new →
     (old.confirmed ≤ new.confirmed)
     × (take old.confirmed (file_of new.texts) ≡ take old.confirmed (file_of old.texts))
 
--- so many first lines of the main server's file have at least all that are confirmed
+-- the first lines of the main server's file, up to this number, include every confirmed line
 abbrev pub HasConfirmed : Servers → ℕ → Type 0
 HasConfirmed now lines = (whole : ℕ) → whole ≤ length now.texts
     → length (file_of (take whole now.texts)) ≤ now.confirmed →
     whole ≤ lines
 
--- what a server with this replica number and this limit of visits makes of the bytes of a pad's file: it reads the
--- lines of these texts as a pad, restarted, and takes it if the first of these records gives it this name
+-- a server with this replica number and this limit of visits reads the bytes of a pad's file as the lines of these
+-- texts, which lead to the pad, restarted; and it takes the pad if the first of these records gives it this name
 pub record IsServed (number most : ℕ) (name bytes : List ℕ) (texts : List (List ℕ)) (records : List Record)
     (had : Machine) : Type 0 where
   pub read : Read
@@ -53,8 +53,8 @@ pub record IsServed (number most : ℕ) (name bytes : List ℕ) (texts : List (L
   pub taken : (owner : List ℕ) (more : List Record) → records ≡ Named name owner ∷ more →
       pad_read number most name bytes ≡ Ok read
 
--- the pad as it was when it had left the records of some first lines of the main server, at least of all confirmed
--- ones: a server with any numbers that starts on these bytes serves it, restarted
+-- the pad had a state after the records of the main server's first lines, up to some number, with every confirmed line
+-- among them; and a server with any numbers that starts on these bytes serves the pad as it was then, restarted
 abbrev pub IsRestored : Servers → ℕ → ℕ → List ℕ → List StoreLine → Machine → List ℕ → Type 0
 IsRestored now replica present name entries m bytes =
     (lines : ℕ) × HasConfirmed now lines
@@ -62,24 +62,24 @@ IsRestored now replica present name entries m bytes =
     × ((number most : ℕ)
     → IsServed number most name bytes (take lines now.texts) (records_in (take lines entries)) had)
 
--- whatever events happen, and whatever a crash of the standby then leaves of its copy, or all of it: whoever starts on it
--- serves the pad as it was, restarted, with all that is confirmed
+-- after any events, and after a crash of the standby or none: a server that starts on the copy serves the pad as it
+-- was, restarted, with every confirmed line
 pub record PromotionLaw : Type 0 where
-  -- if it has the first line, this is what a server with any numbers serves
+  -- bytes with the first line are served by a server with any numbers
   pub restored : (events : List Event) (now : Servers) (replica present : ℕ) (name : List ℕ) (entries : List StoreLine)
       (m : Machine) (bytes : List ℕ) →
       Leads beginning events now →
       Life replica present (records_in entries) m → IsFile name entries → Say entries now.texts →
       MayLeave (record { written = now.copy; synced = now.kept }) now.texts bytes →
       IsRestored now replica present name entries m bytes
-  -- and if it has less, nothing is confirmed
+  -- where fewer bytes are left, no line is confirmed
   pub unbegun : (events : List Event) (now : Servers) (left : ℕ) → Leads beginning events now → now.kept ≤ left →
       length (take left now.copy) < length (file_of (take 1 now.texts)) → HasConfirmed now 0
 
--- what a crash leaves of either server is what an event leaves
+-- each crash is an event: after it, the files of either server are those with which the event lets it start again
 pub record CrashesLaw : Type 0 where
-  -- the main server: whatever is left of its file, with its first line, is read as the lines that it then starts again
-  -- with
+  -- the main server: whatever is left of its file, with the first line, is read as the lines with which it starts
+  -- again
   pub main : (now : Servers) (replica present : ℕ) (name : List ℕ) (entries : List StoreLine) (m : Machine)
       (bytes : List ℕ) →
       Life replica present (records_in entries) m → IsFile name entries → Say entries now.texts →
@@ -87,15 +87,16 @@ pub record CrashesLaw : Type 0 where
       (lines : ℕ) × MayHappen (restarts lines) now
       × ((number most : ℕ) → (read : Read) × (file_read number most name (whole_lines bytes) ≡ Ok read)
       × (read.whole ≡ length (file_of (after (restarts lines) now).texts)))
-  -- the standby: its file is left as far as it was synced, with anything behind that if the log has a stretch of it;
-  -- once the stretches of the log are put back, it has the bytes that the standby then starts again with
+  -- the standby: the synced bytes of its file are left, followed by any bytes if its log has a stretch of the file;
+  -- once the stretches of the log are put back, the file has the bytes with which it starts again
   pub standby : (now : Servers) (synced left logged rest : List ℕ) (log : List Stretch) →
       now.copy ≡ logged ++ rest → HasTaken synced log logged → now.kept ≤ length logged →
       (log ≡ [] → left ≡ []) →
       (bytes : ℕ) × MayHappen (resumes bytes) now
       × (completed (synced ++ left) log ≡ (after (resumes bytes) now).copy)
 
--- some events lead to each copy of each file, with as many bytes synced and confirmed as the law of the standby permits
+-- events lead to each copy of each file, with any numbers of synced and confirmed bytes that the law of the standby
+-- permits
 abbrev pub ReachLaw : Type 0
 ReachLaw =
     (texts : List (List ℕ)) (lines : ℕ) (copy rest : List ℕ) (kept confirmed : ℕ) →

@@ -1,13 +1,14 @@
 -- A server that starts on the copy, whatever a crash left of it.
-use Rattle.std.proofs.Common.{◌≡◌, ℕ, zero, suc, ◌≤◌, ◌<◌, List, length, take, refl, sym, ap, ◌∙◌, arith}
+use Rattle.std.proofs.Common.{◌≡◌, ℕ, zero, suc, ◌≤◌, ◌<◌, List, ◌++◌, length, take, refl, sym, ap, ◌∙◌, subst, arith}
 use Rattle.std.proofs.lemmas.List.{length-take, take-take}
 use Rattle.pad_core.specs.Machine.{Machine}
-use Rattle.store_records.specs.Laws.{Life}
-use Rattle.store_format.specs.Laws.{CrashLaw, IsFile, MayLeave, Say, file_of, records_in}
+use Rattle.store_format.specs.Laws.{CrashLaw, MayLeave, file_of}
 use Rattle.store_format.specs.Laws.MayLeave.{cut, torn}
 use Rattle.store_format.specs.declared.entry.StoreLine.{StoreLine}
-use Rattle.standby_laws.specs.Laws.{HasConfirmed, IsRestored}
+use Rattle.file_copies.specs.Laws.{LogLaw, Stretch, completed}
+use Rattle.standby_laws.specs.Laws.{HasConfirmed, HasPad, IsLeft, IsRestored}
 use Rattle.standby_laws.specs.Servers.{Event, Leads, Servers, beginning}
+use Rattle.standby_laws.proofs.Crashes.{completes, logged_front}
 use Rattle.standby_laws.proofs.Events.{holds_after, holds_first}
 use Rattle.standby_laws.proofs.Files.{front_cut, lines_short}
 use Rattle.standby_laws.proofs.Holding.{Holds}
@@ -28,19 +29,18 @@ left_of_file now bytes h (cut left kept is first) = cut (length bytes) (omega (
     same = ap length (sym is)
 left_of_file now bytes h (torn lines tail kept some is none) = torn lines tail kept some is none
 
--- the law of promotion, by the law of crashes
+-- whatever is left of the copy is served, by the law of crashes
 pub promoted : CrashLaw → (events : List Event) (now : Servers) (replica present : ℕ) (name : List ℕ)
     (entries : List StoreLine) (m : Machine) (bytes : List ℕ) →
-    Leads beginning events now →
-    Life replica present (records_in entries) m → IsFile name entries → Say entries now.texts →
+    Leads beginning events now → HasPad now replica present name entries m →
     MayLeave (record { written = now.copy; synced = now.kept }) now.texts bytes →
     IsRestored now replica present name entries m bytes
-promoted crash events now replica present name entries m bytes leads life file says may =
+promoted crash events now replica present name entries m bytes leads pad may =
     at (holds_after events beginning now holds_first leads)
   where
     at : Holds now → IsRestored now replica present name entries m bytes
     at h = let left = crash replica present name entries m now.texts
-        (record { written = file_of now.texts; synced = now.kept }) bytes life file says refl
+        (record { written = file_of now.texts; synced = now.kept }) bytes pad.life pad.file pad.says refl
         (left_of_file now bytes h may) in (
           left.0,
           λ whole few short. left.1 whole few (omega (arith, short, h.confirmed)),
@@ -54,6 +54,18 @@ promoted crash events now replica present name entries m bytes leads life file s
             taken = found.5;
           },
         )
+
+-- and so is a copy that is completed from the log, by the law of logs
+pub mended : CrashLaw → LogLaw → (events : List Event) (now : Servers) (replica present : ℕ) (name : List ℕ)
+    (entries : List StoreLine) (m : Machine) (synced other logged : List ℕ) (log : List Stretch) →
+    Leads beginning events now → HasPad now replica present name entries m → IsLeft now synced other logged log →
+    length (file_of (take 1 now.texts)) ≤ length logged →
+    IsRestored now replica present name entries m (completed (synced ++ other) log)
+mended crash logs events now replica present name entries m synced other logged log leads pad left first =
+    subst (IsRestored now replica present name entries m)
+    (sym (completes logs synced other logged log left.taken left.alone))
+    (promoted crash events now replica present name entries m logged leads pad
+    (cut (length logged) left.kept (logged_front now.copy logged left.copy.0 left.copy.1) first))
 
 -- where not even the first line is left of the copy, no line is confirmed
 pub none_confirmed : (events : List Event) (now : Servers) (left : ℕ) → Leads beginning events now → now.kept ≤ left →

@@ -42,6 +42,13 @@ HasConfirmed now lines = (whole : ℕ) → whole ≤ length now.texts
     → length (file_of (take whole now.texts)) ≤ now.confirmed →
     whole ≤ lines
 
+-- the main server's lines say these entries, which a pad of this name left in its lives
+pub record HasPad (now : Servers) (replica present : ℕ) (name : List ℕ) (entries : List StoreLine)
+    (m : Machine) : Type 0 where
+  pub life : Life replica present (records_in entries) m
+  pub file : IsFile name entries
+  pub says : Say entries now.texts
+
 -- a server with this replica number and this limit of visits reads the bytes of a pad's file as the lines of these
 -- texts, which lead to the pad, restarted; and it takes the pad if the first of these records gives it this name
 pub record IsServed (number most : ℕ) (name bytes : List ℕ) (texts : List (List ℕ)) (records : List Record)
@@ -62,38 +69,49 @@ IsRestored now replica present name entries m bytes =
     × ((number most : ℕ)
     → IsServed number most name bytes (take lines now.texts) (records_in (take lines entries)) had)
 
+-- the files of a standby after a crash: the synced bytes of its file, with other bytes after them if its log has a
+-- stretch of the file; and the log, whose stretches lead from the synced bytes to bytes of the copy, at least to all
+-- that it has synced
+pub record IsLeft (now : Servers) (synced other logged : List ℕ) (log : List Stretch) : Type 0 where
+  pub copy : (rest : List ℕ) × (now.copy ≡ logged ++ rest)
+  pub taken : HasTaken synced log logged
+  pub kept : now.kept ≤ length logged
+  pub alone : log ≡ [] → other ≡ []
+
 -- after any events, and after a crash of the standby or none: a server that starts on the copy serves the pad as it
 -- was, restarted, with every confirmed line
 pub record PromotionLaw : Type 0 where
   -- bytes with the first line are served by a server with any numbers
   pub restored : (events : List Event) (now : Servers) (replica present : ℕ) (name : List ℕ) (entries : List StoreLine)
       (m : Machine) (bytes : List ℕ) →
-      Leads beginning events now →
-      Life replica present (records_in entries) m → IsFile name entries → Say entries now.texts →
+      Leads beginning events now → HasPad now replica present name entries m →
       MayLeave (record { written = now.copy; synced = now.kept }) now.texts bytes →
       IsRestored now replica present name entries m bytes
+  -- so are the bytes that are completed from the log
+  pub mended : (events : List Event) (now : Servers) (replica present : ℕ) (name : List ℕ) (entries : List StoreLine)
+      (m : Machine) (synced other logged : List ℕ) (log : List Stretch) →
+      Leads beginning events now → HasPad now replica present name entries m →
+      IsLeft now synced other logged log → length (file_of (take 1 now.texts)) ≤ length logged →
+      IsRestored now replica present name entries m (completed (synced ++ other) log)
   -- where fewer bytes are left, no line is confirmed
   pub unbegun : (events : List Event) (now : Servers) (left : ℕ) → Leads beginning events now → now.kept ≤ left →
       length (take left now.copy) < length (file_of (take 1 now.texts)) → HasConfirmed now 0
 
 -- each crash is an event: after it, the files of either server are those with which the event lets it start again
 pub record CrashesLaw : Type 0 where
-  -- the main server: whatever is left of its file, with the first line, is read as the lines with which it starts
-  -- again
+  -- the main server: whatever is left of its file, with the first line, is read as the lines with which it starts again
   pub main : (now : Servers) (replica present : ℕ) (name : List ℕ) (entries : List StoreLine) (m : Machine)
       (bytes : List ℕ) →
-      Life replica present (records_in entries) m → IsFile name entries → Say entries now.texts →
+      HasPad now replica present name entries m →
       MayLeave (record { written = file_of now.texts; synced = now.synced }) now.texts bytes →
       (lines : ℕ) × MayHappen (restarts lines) now
       × ((number most : ℕ) → (read : Read) × (file_read number most name (whole_lines bytes) ≡ Ok read)
       × (read.whole ≡ length (file_of (after (restarts lines) now).texts)))
-  -- the standby: the synced bytes of its file are left, followed by any bytes if its log has a stretch of the file;
-  -- once the stretches of the log are put back, the file has the bytes with which it starts again
-  pub standby : (now : Servers) (synced left logged rest : List ℕ) (log : List Stretch) →
-      now.copy ≡ logged ++ rest → HasTaken synced log logged → now.kept ≤ length logged →
-      (log ≡ [] → left ≡ []) →
+  -- the standby: once the stretches of its log are put back, its file has the bytes with which it starts again
+  pub standby : (now : Servers) (synced other logged : List ℕ) (log : List Stretch) →
+      IsLeft now synced other logged log →
       (bytes : ℕ) × MayHappen (resumes bytes) now
-      × (completed (synced ++ left) log ≡ (after (resumes bytes) now).copy)
+      × (completed (synced ++ other) log ≡ (after (resumes bytes) now).copy)
 
 -- events lead to each copy of each file, with any numbers of synced and confirmed bytes that the law of the standby
 -- permits

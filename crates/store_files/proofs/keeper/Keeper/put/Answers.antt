@@ -3,4 +3,4 @@ use Rattle.store_files.proofs.Noted.{kept_by_note}
 use Rattle.store_files.proofs.keeper.Keeper.put.Goals as goal
 
 pub returns : goal.returns
-returns g c = kept_by_note c.args.told.now c.as_slice-more.result.now _ c.note.result (search) c.in-Ok-records_of.ensures c.note.ensures.queued
+returns g c = kept_by_note c.args.told c.as_slice-more.result.now _ c.note.result (search) c.in-Ok-records_of.ensures c.note.ensures.queued

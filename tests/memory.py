@@ -29,6 +29,9 @@ LEARNS = {"create"}
 # Who a log-in is for is read beforehand, to be noted if its token is wrong. That can do without memory too.
 NOTED = {"hello", "peer"}
 
+# What has a text. Where the room that is made for all of it is refused, it grows as it is read.
+TEXTS = {"mark"}
+
 # What may have a long reply, whose room is given back once it is written. It may also stay: nobody is told of that.
 LONG_REPLIES = {"text", "runs", "comments", "entries", "pull"}
 
@@ -89,7 +92,7 @@ class Server:
             answer, refused = self.refuses_one(allocation, lambda: client.ask(**request))
             if allocation > 1 and answer.get("code") == DONE.get(request["do"], 0):
                 return None, 0
-            if not refused or (answer["ok"] and request["do"] in WAKES | LEARNS | NOTED | LONG_REPLIES):
+            if not refused or (answer["ok"] and request["do"] in WAKES | LEARNS | NOTED | TEXTS | LONG_REPLIES):
                 return answer, allocation if refused else 0
             want(answer, NO_MEMORY, f"the answer to {request} with its allocation {allocation} refused")
             after = read()
@@ -129,6 +132,16 @@ class Story:
 
     def on_pad(self, who, do, **fields):
         return self.does(who, do=do, pad="p", **fields)
+
+    def names(self, who, **fields):
+        """A name of a revision, each of whose allocations is refused once. Returns how often the name was given."""
+        first = 1
+        for given in range(1, 9):
+            _, refused = self.server.exhausts(self.clients[who], {"do": "mark", "pad": "p", **fields}, self.read, first)
+            if not refused:
+                return given
+            first = refused + 1
+        raise Failed("a revision can be named without eight allocations")
 
     def edits(self, who, do, changed, again=None, **fields):
         """An edit, each of whose allocations is refused once: where it is done without one, it is made again from the next one on.
@@ -225,9 +238,9 @@ def allocations_of_each_request_are_refused():
     want(story.on_pad("ann", "text"), {"now": story.now, "ok": True, "rev": story.now, "text": story.text}, "the text")
     story.edits("ann", "comment", lambda text: text, at=2, len=3, text="why?")
     story.edits("bob", "resolve", lambda text: text, comment=[1, story.now])
-    story.on_pad("bob", "mark", rev=1, text="A first draft")
-    named = story.on_pad("ann", "marks")["marks"]
-    want([(one["author"], one["rev"], one["text"]) for one in named], [("bob", 1, "A first draft")], "the names of revisions")
+    given = story.names("bob", rev=1, text="A first draft")
+    named = [(one["author"], one["rev"], one["text"]) for one in story.on_pad("ann", "marks")["marks"]]
+    want(named, [("bob", 1, "A first draft")] * given, "the names of revisions")
     story.on_pad("bob", "caret", rev=story.now, at=3)
     receive(story)
     read_all(story)

@@ -77,12 +77,7 @@ impl<R: Clock> Gate for FirstCellHeld<'_, R> {
 
     ghost announced = { λ _ _ _. ⊤ };
 
-    fn answered<S: Sequence>(
-        &self,
-        _alloc: Global,
-        _answered: Answered<'_>,
-        _pad: &LockedPad<S>,
-    ) {}
+    fn answered<S: Sequence>(&self, _alloc: Global, _answered: Answered<'_>, _pad: &LockedPad<S>) {}
 
     fn reads_operations(&self) -> bool {
         false
@@ -208,12 +203,7 @@ impl<R: Clock> Gate for FirstConnectionHeld<'_, R> {
 
     ghost announced = { λ _ _ _. ⊤ };
 
-    fn answered<S: Sequence>(
-        &self,
-        _alloc: Global,
-        _answered: Answered<'_>,
-        _pad: &LockedPad<S>,
-    ) {}
+    fn answered<S: Sequence>(&self, _alloc: Global, _answered: Answered<'_>, _pad: &LockedPad<S>) {}
 
     fn reads_operations(&self) -> bool {
         false

@@ -57,22 +57,26 @@ def its_disk_is_full(machines, dice):
     machines.faults.set("room", dice.randrange(1, 20_000))
 
 
-def lose_both(lose_the_standby, seed):
-    """Returns how many answers were confirmed, and how many were given alone."""
-    dice = random.Random(f"{lose_the_standby.__name__} {seed}")
+def under_load(dice, seed):
+    """Two machines of which the first confirms what it answers, and fifteen authors who have written for a while."""
     machines = WeakMachines(seed)
     machines.run(2, "copy", f"--standby-of 1 {SIZES}")
     machines.main("5", SIZES)
     machines.wait_until_said(1, "has everything that is stored here")
     begin_pads(machines)
-    writers = [Writer(machines, name, f"alone {seed} {name}") for name in NAMES]
+    writers = [Writer(machines, name, f"{seed} {name}") for name in NAMES]
     time.sleep(dice.uniform(0.5, 2))
+    return machines, writers
+
+
+def lose_both(lose_the_standby, seed):
+    """Returns how many answers were confirmed, and how many were given alone."""
+    dice = random.Random(f"{lose_the_standby.__name__} {seed}")
+    machines, writers = under_load(dice, seed)
     lose_the_standby(machines, dice)
     until = machines.goes_on_alone()
     time.sleep(dice.uniform(0.2, 1))
-    counts = promoted_has(machines, writers, until)
-    machines.faults.set("room", 0)
-    return counts
+    return promoted_has(machines, writers, until)
 
 
 def promoted_has(machines, writers, until):
@@ -104,13 +108,7 @@ def both_are_lost(lose_the_standby, rounds):
 def the_standby_comes_back(rounds):
     """It is stopped, goes on, and catches up: then everything that was answered is there, also what was answered alone."""
     for seed in range(rounds):
-        machines = WeakMachines(seed)
-        machines.run(2, "copy", f"--standby-of 1 {SIZES}")
-        machines.main("5", SIZES)
-        machines.wait_until_said(1, "has everything that is stored here")
-        begin_pads(machines)
-        writers = [Writer(machines, name, f"back {seed} {name}") for name in NAMES]
-        time.sleep(random.Random(seed).uniform(0.2, 1))
+        machines, writers = under_load(random.Random(f"back {seed}"), seed)
         machines.signal(signal.SIGSTOP)
         until = machines.goes_on_alone()
         time.sleep(0.5)

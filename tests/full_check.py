@@ -238,6 +238,16 @@ def a_short_run_tries_no_long_edits():
     want(recorded(), ["apart", "low"], "the record after an edit of high that was proved")
 
 
+def edits_alone_are_tried_as_the_full_check_proves():
+    repository(says=refusals(but=["b.edit"]).replace("rt: must-fail high/c.edit: refused, as it must be: f\n", ""))
+    want(run(".ci/long", "--short", "--edits").returncode, 0, "the status of a run that tries edits alone")
+    want(sorted(read("edits").split()), sorted(path for path in EDITS if "long" not in path), "the edits of that run")
+    proved = sorted({line.split(":")[0] for line in CRATES.splitlines()} - {*UNPROVED})
+    want(sorted(read("crates").split()), proved, "the crates of that run")
+    want(recorded(), ["apart", "low"], "the record, where an edit of high was proved")
+    want(os.path.exists("called") and "tests/run" in read("called"), False, "that the tests of programs are played")
+
+
 def single_crates_and_what_has_changed():
     repository()
     run(".ci/long", "high")
@@ -258,5 +268,6 @@ TESTS = [
     Test("full check: a wrong line hides no change", a_wrong_line_hides_no_change, 60),
     Test("full check: an edit that is not refused is not written down", an_edit_that_is_not_refused_is_not_written_down),
     Test("full check: a short run tries no long edits", a_short_run_tries_no_long_edits),
+    Test("full check: edits alone are tried as it proves", edits_alone_are_tried_as_the_full_check_proves),
     Test("full check: single crates, and what has changed", single_crates_and_what_has_changed),
 ]

@@ -9,4 +9,3 @@ pub mod Socket
 pub mod PageRequests
 pub mod Tags
 pub mod Users
-pub mod Waiting

@@ -4,13 +4,13 @@ ghost use Rattle.websocket.specs.declared.protocol.config.Role.TheVariants.{Serv
 ghost use Rattle.web_wire.specs.Course.{close_code, farewell, waits};
 ghost use Rattle.web_wire.specs.Socket.{GivesLine, GoesOn, course, fed, fresh, opened};
 
-use crate::frame_bytes::FrameBytes;
-use crate::front::Front;
+use crate::front::{Front, read_frame};
 use crate::heard::Heard;
 use std::alloc::{AllocError, Global};
 use std::marker::Model;
 use websocket::error::Error;
 use websocket::protocol::{CloseCode, CloseFrame, NoMask, Role, WebSocketConfig, WebSocketContext};
+use wire_lines::ByteBuffer;
 
 /// The most bytes of a message, and of a frame: as many as of a line.
 pub const LONGEST_MESSAGE: usize = 8_388_608;
@@ -42,7 +42,7 @@ enum FrameStep {
 #[derive(Drop)]
 pub struct Frames {
     context: WebSocketContext,
-    bytes: FrameBytes,
+    bytes: ByteBuffer,
     ended: bool,
 }
 
@@ -69,7 +69,7 @@ impl Frames {
     {
         Frames {
             context: WebSocketContext::new(alloc, Role::Server, config()),
-            bytes: FrameBytes::new(input),
+            bytes: ByteBuffer::of(input),
             ended: false,
         }
     }
@@ -176,7 +176,7 @@ impl Frames {
         // Memory is reserved before a frame is read. After that, only a message in fragments can run out of it.
         output.reserve(LONGEST_REPLY)?;
         line.reserve(self.bytes.len().min(LONGEST_MESSAGE) + 1)?;
-        match self.bytes.read(&mut self.context, line, output) {
+        match read_frame(&mut self.context, &mut self.bytes, line, output) {
             Ok(Front::Cut) => Ok(FrameStep::Waits),
             Ok(Front::Whole(count, heard)) => {
                 self.bytes.take(count);

@@ -2,15 +2,14 @@
 //! lines.
 //!
 //! It reads no device and no clock, so both blocking and polling threads can drive it. It depends on `http1`,
-//! `httparse`, `websocket` and `bytes`. It knows nothing of JSON: a line is bytes.
+//! `httparse`, `websocket` and `bytes`, and for the bytes that wait on `wire_lines`. It knows nothing of JSON: a line is
+//! bytes.
 #![tactic(auto)]
 
 mod field;
-mod frame_bytes;
 mod frames;
 mod front;
 mod heard;
-mod held;
 mod kept;
 pub mod laws;
 mod message;

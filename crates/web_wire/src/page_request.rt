@@ -8,7 +8,6 @@ ghost use Rattle.websocket.specs.Headers.{fields_of};
 ghost use Rattle.web_wire.specs.PageRequests.{AsksUser, Grows, HasReason, IfRefused, IsKnown, IsPlanned, IsRefused, KeepsPage, PutsUser, TellsStatus, has_bytes, request_limits, OpensSocket, Responds, ServesPage};
 ghost use Rattle.web_wire.specs.Users.{may_name, user_of};
 
-use crate::held::drop_front;
 use crate::page::{Page, Site};
 use crate::plan::{Plan, plan_of};
 use crate::reply::{
@@ -19,6 +18,7 @@ use http1::{BodySize, Event, Limits, Server, WriteError};
 use httparse::spans::{EMPTY_HEADER_SPAN, HeaderSpan, RequestSpans};
 use std::alloc::{AllocError, Global};
 use std::marker::Model;
+use wire_lines::drop_front;
 
 /// The most bytes of a request's head.
 pub const LONGEST_HEAD: usize = 8_192;

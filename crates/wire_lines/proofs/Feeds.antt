@@ -1,6 +1,6 @@
 -- Where the first line ends, in a part of the bytes and with more of them.
 use Rattle.std.proofs.Common.{◌≡◌, ℕ, ◌+◌, ◌-◌, ◌<◌, ◌≤◌, zero, suc, Bool, true, false, not, cond, eqb, List, [], ◌∷◌}
-use Rattle.std.proofs.Common.{◌++◌, length, take, drop, ap, ◌∙◌, sym, subst, arith, None, Some, length-drop, drop-drop}
+use Rattle.std.proofs.Common.{◌++◌, length, take, drop, ap, ◌∙◌, sym, subst, arith, None, Some, length-drop}
 use Rattle.std.proofs.Common.{ltb}
 use Rattle.std.proofs.lemmas.List.Folds.{prefix_len-append}
 use Rattle.std.proofs.lemmas.List.Sums.{prefix_len-le-length}
@@ -59,7 +59,3 @@ end-none held from in_range found =
     let ge : length (drop from held) ≤ line_end (drop from held) = place-none (line_end (drop from held))
     (length (drop from held)) there in
     omega (arith, line_end-le (drop from held), length-drop from held)
-
--- what is dropped in two steps
-pub further : (held : List ℕ) (start end : ℕ) → start ≤ end → drop (end - start) (drop start held) ≡ drop end held
-further held start end le = drop-drop (end - start) start held ∙ ap (λ n. drop n held) (omega arith)

@@ -1,4 +1,5 @@
 -- The lemmas, by topic.
+pub mod Bytes
 pub mod Counts
 pub mod Feeds
 pub mod InOrder

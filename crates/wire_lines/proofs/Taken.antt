@@ -1,16 +1,15 @@
 -- What a part of the bytes shows about all of them.
-use Rattle.std.proofs.Common.{◌≡◌, ℕ, ◌+◌, ◌-◌, ◌<◌, ◌≤◌, true, false, cond, ltb, List, ◌++◌, length, length-append}
-use Rattle.std.proofs.Common.{inl, inr, slice_index, take, drop, refl, ap, ◌∙◌, sym, subst, arith, length-drop, drop-drop}
+use Rattle.std.proofs.Common.{◌≡◌, ℕ, ◌+◌, ◌<◌, ◌≤◌, true, false, cond, ltb, List, ◌++◌, length, length-append}
+use Rattle.std.proofs.Common.{inl, inr, slice_index, take, drop, refl, ap, ◌∙◌, sym, subst, arith}
 use Rattle.std.proofs.lemmas.Bool.{cases_lt, eqb-true}
-use Rattle.std.proofs.lemmas.List.{take-append-le, drop-append-le, get_or-drop}
+use Rattle.std.proofs.lemmas.List.{take-append-le, take-take, drop-append-le}
 use Rattle.std.proofs.lemmas.List.Sums.{passes_at_first}
-use Rattle.std.specs.Prelude.{slice_range}
 use Rattle.wire_lines.specs.Lines.{is_feed, line_end, first_line, behind_line, without_return}
 use Rattle.wire_lines.specs.Buffer.{ShowsBefore}
 use Rattle.wire_lines.specs.declared.buffer.FoundLine.TheVariants.{Text, TooLong}
 use Rattle.wire_lines.specs.declared.feed.TheConstants.{MAX_LINE}
-use Rattle.wire_lines.specs.Inside.{IsSearched, IsSplit}
-use Rattle.wire_lines.proofs.Feeds.{line_end-found, line_end-more, line_end-from, further}
+use Rattle.wire_lines.specs.Inside.{IsSearched}
+use Rattle.wire_lines.proofs.Feeds.{line_end-found, line_end-more, line_end-from}
 
 -- the first line of bytes that have a line feed
 pub first-of : (bytes : List ℕ) → line_end bytes < length bytes → first_line bytes
@@ -52,68 +51,40 @@ shows_too_long bytes line many more =
     let longer : line_end bytes ≤ line_end (bytes ++ more) = line_end-more bytes more in
     (above (line_end (bytes ++ more)) MAX_LINE (omega arith), refl)
 
--- what is held up to the end of the first line is that line
-pub held_line : (held waiting : List ℕ) (start end to : ℕ) → drop start held ≡ waiting
-    → end ≡ start + line_end (drop start held)
-    → slice_range held start to ≡ without_return (slice_range held start end)
-    → without_return (take (line_end waiting) waiting) ≡ slice_range held start to
-held_line held waiting start end to is at line =
-    let so : end - start ≡ line_end waiting = omega (arith, ap line_end is) in
-    sym (line ∙ ap (λ n. without_return (take n (drop start held))) so
-    ∙ ap (λ w. without_return (take (line_end waiting) w)) is)
+-- the first line of what waits shows, whatever follows
+pub first_shows : (waiting : List ℕ) (end to : ℕ) → end ≡ line_end waiting → end < length waiting → end ≤ MAX_LINE
+    → take to waiting ≡ without_return (take end waiting) → ShowsBefore Text waiting (take to waiting) (behind_line waiting)
+first_shows waiting end to at there few line =
+    subst (λ l. ShowsBefore Text waiting l (behind_line waiting))
+    (sym (line ∙ ap (λ n. without_return (take n waiting)) at))
+    (shows_text waiting (omega arith) (omega arith))
 
--- what is held after the end of the first line is the rest
-pub held_rest : (held waiting : List ℕ) (start end : ℕ) → drop start held ≡ waiting
-    → end ≡ start + line_end (drop start held) → drop (line_end waiting + 1) waiting ≡ drop (end + 1) held
-held_rest held waiting start end is at =
-    let so : end + 1 ≡ start + (line_end waiting + 1) = omega (arith, ap line_end is) in
-    ap (drop (line_end waiting + 1)) (sym is) ∙ drop-drop (line_end waiting + 1) start held
-    ∙ ap (λ n. drop n held) (omega arith)
+-- the same once it was taken with its line feed
+pub taken_shows : (waiting taken rest : List ℕ) (end to : ℕ) → end ≡ line_end waiting → end < length waiting → end ≤ MAX_LINE
+    → to ≤ end → take to waiting ≡ without_return (take end waiting) → taken ≡ take (end + 1) waiting
+    → rest ≡ drop (end + 1) waiting → ShowsBefore Text waiting (take to taken) rest
+taken_shows waiting taken rest end to at there few short line front behind =
+    subst (λ r. ShowsBefore Text waiting (take to taken) r) (sym (behind ∙ ap (λ n. drop (n + 1) waiting) at))
+    (subst (λ l. ShowsBefore Text waiting l (behind_line waiting))
+    (sym (ap (take to) front ∙ take-take to (end + 1) waiting (omega arith)))
+    (first_shows waiting end to at there few line))
 
--- the first line of what is held shows, whatever follows
-pub first_shows : (held waiting : List ℕ) (start end to : ℕ) → drop start held ≡ waiting → start ≤ length held
-    → end ≡ start + line_end (drop start held) → end < length held → end - start ≤ MAX_LINE
-    → slice_range held start to ≡ without_return (slice_range held start end)
-    → ShowsBefore Text waiting (slice_range held start to) (behind_line waiting)
-first_shows held waiting start end to is start_in at in_range few line =
-    let there : line_end waiting < length waiting = omega (arith, length-drop start held, ap length is, ap line_end is) in
-    let short : line_end waiting ≤ MAX_LINE = omega (arith, ap line_end is) in
-    subst (λ l. ShowsBefore Text waiting l (behind_line waiting)) (held_line held waiting start end to is at line)
-    (shows_text waiting there short)
-
--- after more bytes came the fields are in order
-pub after_more : (held new more : List ℕ) (start end later from to : ℕ) → IsSplit held start end from to
-    → new ≡ held ++ more → later ≡ end + line_end (drop end new) → later ≤ length new → IsSplit new start later from to
-after_more held new more start end later from to kept is at later_in =
-    let start_in : start ≤ length held = kept.start_in in
-    let ends : end ≡ start + line_end (drop start held) = kept.ends in
-    let line_in : to ≤ length held = kept.line_in in
-    let longer : length new ≡ length held + length more = ap length is ∙ length-append held more in
-    let parts : drop start new ≡ drop start held ++ more = ap (drop start) is ∙ drop-append-le start held more start_in in
-    let most : line_end (drop start held) ≤ line_end (drop start new) =
-    subst (λ l. line_end (drop start held) ≤ line_end l) (sym parts) (line_end-more (drop start held) more) in
-    let on : line_end (drop start new) ≡ (end - start) + line_end (drop (end - start) (drop start new)) =
-    line_end-from (drop start new) (end - start) (omega arith) in
-    let same : line_end (drop (end - start) (drop start new)) ≡ line_end (drop end new) =
-    ap line_end (further new start end (omega arith)) in
-    record {
-      start_in = omega arith;
-      ends = omega arith;
-      end_in = later_in;
-      line_ordered = kept.line_ordered;
-      line_in = omega arith;
-    }
+-- after more bytes came the search has gone on to the end of the first line
+pub after_more : (waiting new more : List ℕ) (end later : ℕ) → end ≡ line_end waiting → new ≡ waiting ++ more
+    → later ≡ end + line_end (drop end new) → later ≡ line_end new
+after_more waiting new more end later at is on =
+    let most : line_end waiting ≤ line_end new =
+    subst (λ l. line_end waiting ≤ line_end l) (sym is) (line_end-more waiting more) in
+    on ∙ sym (line_end-from new end (omega arith))
 
 -- the end of the first line is where a search for it ended
-pub is_searched : (held : List ℕ) (start end : ℕ) → start ≤ length held → end ≡ start + line_end (drop start held)
-    → end ≤ length held → IsSearched held end
-is_searched held start end from at within = elim (cases_lt end (length held)) [
+pub is_searched : (waiting : List ℕ) (end : ℕ) → end ≡ line_end waiting → end ≤ length waiting → IsSearched waiting end
+is_searched waiting end at within = elim (cases_lt end (length waiting)) [
   | inl before ↦ inr (feed before)
   | inr behind ↦ inl (omega arith)
 ]
   where
-    feed : end < length held → slice_index held end ≡ 10
+    feed : end < length waiting → slice_index waiting end ≡ 10
     feed before =
-        let here = passes_at_first is_feed (drop start held) 0 (omega (arith, length-drop start held)) in
-        ap (λ i. slice_index held i) at ∙ sym (get_or-drop start held (line_end (drop start held)) 0)
-        ∙ eqb-true _ 10 here
+        let here = passes_at_first is_feed waiting 0 (omega arith) in
+        ap (λ i. slice_index waiting i) at ∙ eqb-true _ 10 here

@@ -1,5 +1,6 @@
 -- The definitions that the contracts cite, by topic.
 pub mod Buffer
+pub mod Bytes
 pub mod Causes
 pub mod Device
 pub mod Devices

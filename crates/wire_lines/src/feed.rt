@@ -1,5 +1,5 @@
 //! Finds the end of a line, and a carriage return before it.
-ghost use Rattle.std.specs.Prelude.{◌≡◌, ◌+◌, ◌≤◌, length, drop, slice_range};
+ghost use Rattle.std.specs.Prelude.{◌≡◌, ◌+◌, ◌≤◌, length, drop, take};
 ghost use Rattle.std.specs.List.{position};
 ghost use Rattle.wire_lines.specs.Lines.{is_feed, line_end, without_return};
 
@@ -24,16 +24,13 @@ fn find_feed(bytes: &[u8]) -> Option<usize>
     bytes.iter().position(|byte| *byte == b'\n')
 }
 
-/// The end of a line without one carriage return at its end.
-pub fn end_without_return(held: &[u8], start: usize, feed: usize) -> usize
-    requires ordered { start ≤ feed }
-    requires in_range { feed ≤ length held.now }
-    ensures line { slice_range held.now start result
-        ≡ without_return (slice_range held.now start feed) }
-    ensures from_start { start ≤ result }
+/// The end of the first line without one carriage return at its end. Its line feed is at `feed`.
+pub fn end_without_return(bytes: &[u8], feed: usize) -> usize
+    requires { feed ≤ length bytes.now }
+    ensures line { take result bytes.now ≡ without_return (take feed bytes.now) }
     ensures bound { result ≤ feed }
 {
-    if start < feed && held[feed - 1] == b'\r' {
+    if feed > 0 && bytes[feed - 1] == b'\r' {
         feed - 1
     } else {
         feed

@@ -5,6 +5,7 @@
 #![tactic(auto)]
 
 mod buffer;
+mod byte_buffer;
 mod cause;
 mod device;
 mod fault;
@@ -19,6 +20,7 @@ mod watched;
 mod write;
 
 pub use buffer::{FoundLine, LineBuffer};
+pub use byte_buffer::{ByteBuffer, drop_front};
 pub use cause::cause_of;
 pub use device::{ReadError, Sink, Source, WriteError};
 pub use fault::Fault;

@@ -1,5 +1,5 @@
 //! Bytes that arrive in pieces, and the lines in them. Nothing is read here: the caller passes the bytes, or an inlet.
-ghost use Rattle.std.specs.Prelude.{◌≡◌, ◌+◌, ◌≤◌, ◌<◌, true, false, ◌≢◌, nat_lt, [], ◌++◌, length, drop, IfErr, IfNone, IfOk, IfSome, OnOk, OnErr, IsOk, Some, vec_len, vec_capacity};
+ghost use Rattle.std.specs.Prelude.{◌≡◌, ◌+◌, ◌≤◌, ◌<◌, true, false, ◌≢◌, nat_lt, [], ◌++◌, length, drop, IfErr, IfNone, IfOk, IfSome, OnOk, OnErr, IsOk, Some};
 ghost use Rattle.std.specs.Bool.{OnTrue};
 ghost use Rattle.std.specs.Io.KnownBytes.{Keeps, IsAtEnd, prepend_known};
 ghost use Rattle.wire_lines.specs.Lines.{behind_line, line_end};
@@ -10,6 +10,7 @@ ghost use Rattle.wire_lines.specs.Causes.{AreCounted, HasCause, most_reads};
 ghost use Rattle.wire_lines.specs.declared.fault.Fault.TheVariants.{Memory};
 
 use crate::buffer::FoundLine;
+use crate::byte_buffer::ByteBuffer;
 use crate::device::Source;
 use crate::fault::Fault;
 use crate::feed::{MAX_LINE, end_from, end_without_return};
@@ -17,36 +18,29 @@ use crate::inlet::{CHUNK, Inlet};
 use std::alloc::Global;
 use std::marker::Model;
 
-// The capacity that is kept for waiting bytes. What a longer line needed is freed when more bytes arrive.
-const KEPT: usize = 2 * CHUNK;
-
-// The capacity that is kept while nothing arrives, so that a short line needs no allocation.
-const KEPT_IDLE: usize = 1_024;
-
 /// The bytes that arrived and were not yet used, and the line that was found last.
 #[derive(Drop)]
 pub struct LineSplitter {
-    held: Vec<u8>,
-    start: usize,
-    // The end of the first line: its line feed, or the end of the held bytes. So no byte is searched twice.
+    bytes: ByteBuffer,
+    // The end of the first line that waits: its line feed, or the end of the bytes. So no byte is searched twice.
     end: usize,
-    line_from: usize,
-    line_to: usize,
+    // The length of the line that was found last: it is the front of the bytes that were taken last.
+    line_len: usize,
 }
 
 impl Model for LineSplitter {
-    ghost use Rattle.std.specs.Prelude.{drop, slice_range};
+    ghost use Rattle.std.specs.Prelude.{take};
     ghost use Rattle.wire_lines.specs.Splitter.{Split};
     ghost use Rattle.wire_lines.specs.Inside.{IsSplit};
 
     ghost Value = { Split };
 
     ghost view = { λ s. record {
-      waiting = drop s.start s.held.items;
-      line = slice_range s.held.items s.line_from s.line_to;
+      waiting = s.bytes.waiting;
+      line = take s.line_len s.bytes.taken;
     } };
 
-    ghost invariant = { λ s. IsSplit s.held.items s.start s.end s.line_from s.line_to };
+    ghost invariant = { λ s. IsSplit s.bytes.waiting s.bytes.taken s.end s.line_len };
 }
 
 impl LineSplitter {
@@ -55,11 +49,9 @@ impl LineSplitter {
         ensures { result ≡ record { waiting = []; line = [] } }
     {
         LineSplitter {
-            held: Vec::new(alloc),
-            start: 0,
+            bytes: ByteBuffer::new(alloc),
             end: 0,
-            line_from: 0,
-            line_to: 0,
+            line_len: 0,
         }
     }
 
@@ -67,15 +59,14 @@ impl LineSplitter {
     pub fn line(&self) -> &[u8]
         ensures { result.now ≡ self.now.line }
     {
-        let (from, to) = (self.line_from, self.line_to);
-        &self.held[from..to]
+        &self.bytes.taken()[..self.line_len]
     }
 
     /// The number of waiting bytes.
     pub fn len(&self) -> usize
         ensures { result ≡ length self.now.waiting }
     {
-        self.held.len() - self.start
+        self.bytes.len()
     }
 
     /// Returns true if no bytes wait.
@@ -83,7 +74,7 @@ impl LineSplitter {
         ensures empty { result ≡ true → self.now.waiting ≡ [] }
         ensures some { result ≡ false → 0 < length self.now.waiting }
     {
-        self.start == self.held.len()
+        self.bytes.is_empty()
     }
 
     /// The first line, without its line end, if its line feed has arrived and it is not too long. The line stays.
@@ -92,12 +83,12 @@ impl LineSplitter {
             (behind_line self.now.waiting)) }
         ensures none { IfNone result (has_line self.now.waiting ≡ false) }
     {
-        let (start, end) = (self.start, self.end);
-        let has_feed = end < self.held.len();
-        let fits = end - start <= MAX_LINE;
+        let end = self.end;
+        let has_feed = end < self.bytes.len();
+        let fits = end <= MAX_LINE;
         if has_feed && fits {
-            let to = end_without_return(&self.held, start, end);
-            return Some(&self.held[start..to]);
+            let to = end_without_return(self.bytes.waiting(), end);
+            return Some(&self.bytes.waiting()[..to]);
         }
         None
     }
@@ -106,7 +97,7 @@ impl LineSplitter {
     pub fn has_second(&self) -> bool
         ensures { result ≡ nat_lt 0 (length (behind_line self.now.waiting)) }
     {
-        self.end + 1 < self.held.len()
+        self.bytes.len() - self.end > 1
     }
 
     /// Appends bytes to those that wait; if memory runs out, none of them.
@@ -116,10 +107,9 @@ impl LineSplitter {
         ensures fault { IfErr result (λ fault. fault ≡ Memory) }
         ensures line { self.new.line ≡ [] }
     {
-        self.make_space();
-        let missing = KEPT_IDLE.saturating_sub(self.held.len());
-        self.held.reserve(missing)?;
-        self.end = append(&mut self.held, self.end, bytes)?;
+        self.line_len = 0;
+        self.bytes.reserve(bytes.len())?;
+        self.end = append(&mut self.bytes, self.end, bytes)?;
         Ok(())
     }
 
@@ -144,10 +134,10 @@ impl LineSplitter {
         ensures counted { AreCounted result (R.reads source.old) (R.reads source.new)
             inlet.old.reads inlet.new.reads }
     {
-        self.make_space();
-        self.held.reserve(CHUNK)?;
+        self.line_len = 0;
+        self.bytes.reserve(CHUNK)?;
         inlet.read(source)?;
-        self.end = append(&mut self.held, self.end, inlet.bytes())?;
+        self.end = append(&mut self.bytes, self.end, inlet.bytes())?;
         Ok(())
     }
 
@@ -161,19 +151,18 @@ impl LineSplitter {
             → length self.new.waiting < length self.old.waiting }
         ensures stays { IfNone result (self.new.waiting ≡ self.old.waiting) }
     {
-        let (start, end) = (self.start, self.end);
-        let is_long = end - start > MAX_LINE;
+        let end = self.end;
+        let is_long = end > MAX_LINE;
         if is_long {
             return Some(FoundLine::TooLong);
         }
-        let is_part = end == self.held.len();
+        let is_part = end == self.bytes.len();
         if is_part {
             return None;
         }
-        self.line_from = start;
-        self.line_to = end_without_return(&self.held, start, end);
-        self.start = end + 1;
-        self.end = end_from(&self.held, end + 1);
+        self.line_len = end_without_return(self.bytes.waiting(), end);
+        self.bytes.take(end + 1);
+        self.end = end_from(self.bytes.waiting(), 0);
         Some(FoundLine::Text)
     }
 
@@ -185,14 +174,13 @@ impl LineSplitter {
         ensures none { result ≡ false → self.old.waiting ≡ [] }
         ensures rest { self.new.waiting ≡ [] }
     {
-        let end = self.held.len();
-        if self.start == end {
+        let len = self.bytes.len();
+        if len == 0 {
             return false;
         }
-        self.line_from = self.start;
-        self.line_to = end;
-        self.start = end;
-        self.end = end;
+        self.line_len = len;
+        self.bytes.take(len);
+        self.end = 0;
         true
     }
 
@@ -201,59 +189,24 @@ impl LineSplitter {
     pub fn release(&mut self)
         ensures { self.new ≡ record { waiting = self.old.waiting; line = [] } }
     {
-        self.drop_used();
-        self.held.shrink_to(KEPT_IDLE);
-    }
-
-    // Drops the used bytes once they are half of those held, so that at most as many bytes are moved as arrive.
-    fn make_space(&mut self)
-        ensures { self.new ≡ record { waiting = self.old.waiting; line = [] } }
-    {
-        self.line_from = 0;
-        self.line_to = 0;
-        if self.start >= self.held.len() - self.start {
-            self.drop_used();
-            self.held.shrink_to(KEPT);
-        }
-    }
-
-    // Drops the used bytes.
-    fn drop_used(&mut self)
-        ensures { self.new ≡ record { waiting = self.old.waiting; line = [] } }
-    {
-        drop_front(&mut self.held, self.start);
-        self.end -= self.start;
-        self.start = 0;
-        self.line_from = 0;
-        self.line_to = 0;
+        self.bytes.release();
+        self.line_len = 0;
     }
 }
 
-// Appends bytes, and returns the new end of a line that was searched up to `end`. All that is held was searched, unless a
-// line feed ended the search before: so no byte is searched twice.
-fn append(held: &mut Vec<u8>, end: usize, bytes: &[u8]) -> Result<usize, Fault>
-    requires within { end ≤ vec_len held.old }
-    requires searched { IsSearched held.old.items end }
-    ensures bytes { OnOk result (held.new.items ≡ held.old.items ++ bytes.now) }
-    ensures end { IfOk result (λ new. (new ≡ end + line_end (drop end held.new.items))
-        × (new ≤ length held.new.items)) }
-    ensures err { OnErr result (held.new.items ≡ held.old.items) }
-    ensures room { vec_len held.old + length bytes.now ≤ vec_capacity held.old → IsOk result }
+// Appends bytes, and returns the new end of a line that was searched up to `end`. All that waits was searched, unless a line
+// feed ended the search before: so no byte is searched twice.
+fn append(held: &mut ByteBuffer, end: usize, bytes: &[u8]) -> Result<usize, Fault>
+    requires within { end ≤ length held.old.waiting }
+    requires searched { IsSearched held.old.waiting end }
+    ensures bytes { OnOk result (held.new.waiting ≡ held.old.waiting ++ bytes.now) }
+    ensures end { IfOk result (λ new. (new ≡ end + line_end (drop end held.new.waiting))
+        × (new ≤ length held.new.waiting)) }
+    ensures err { OnErr result (held.new.waiting ≡ held.old.waiting) }
+    ensures taken { held.new.taken ≡ held.old.taken }
+    ensures room { length bytes.now ≤ held.old.room → IsOk result }
     ensures fault { IfErr result (λ fault. fault ≡ Memory) }
 {
-    held.extend_from_slice(bytes)?;
-    Ok(end_from(held, end))
-}
-
-// Drops the first bytes.
-fn drop_front(held: &mut Vec<u8>, count: usize)
-    requires { count ≤ vec_len held.old }
-    ensures { held.new.items ≡ drop count held.old.items }
-{
-    if count == 0 {
-        return;
-    }
-    let rest = held.len() - count;
-    held.copy_within(count.., 0);
-    held.truncate(rest);
+    held.append(bytes)?;
+    Ok(end_from(held.waiting(), end))
 }

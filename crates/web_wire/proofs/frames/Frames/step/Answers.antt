@@ -18,7 +18,7 @@ returns-in-Line-clause-line c _ =
 
 pub returns-in-Closed-clause-closes : goal.returns-in-Closed-clause-closes
 returns-in-Closed-clause-closes c _ = (
-  rw (sym c.self.view_is) (goes_closed (the_view c.self.inside) (record { conn = c.read.new.context; waiting = []; ended = true })
+  rw (sym c.self.view_is) (goes_closed (the_view c.self.inside) (record { conn = c.read_frame.new.context; waiting = []; ended = true })
       c.in-Ok-Whole.count c.in-Ok-Whole.heard _ _ _ _ (ap (λ s. s.ended) c.self.view_is ∙ c.requires) c.reserve.ensures.items
       c.in-Closed.is refl (rw c.in-Ok-Whole.field-0-is at c.in-Ok-Whole.ensures.reads)),
   refl,

@@ -1,8 +1,5 @@
-use Rattle.std.proofs.Common.{ap, subst, arith}
-use Rattle.std.specs.Prelude.{slice_range}
-use Rattle.wire_lines.specs.Buffer.{ShowsBefore}
-use Rattle.wire_lines.specs.declared.buffer.FoundLine.TheVariants.{Text}
-use Rattle.wire_lines.proofs.Taken.{first_shows, held_rest, shows_too_long}
+use Rattle.std.proofs.Common.{ap, length, arith}
+use Rattle.wire_lines.proofs.Taken.{taken_shows, shows_too_long}
 use Rattle.wire_lines.proofs.splitter.LineSplitter.next_line.Goals as goal
 
 pub returns-then-is_long-clause-found : goal.returns-then-is_long-clause-found
@@ -14,12 +11,8 @@ returns-then-is_long-clause-found c =
 pub returns-clause-found : goal.returns-clause-found
 returns-clause-found c =
     let is = ap (λ s. s.waiting) c.self.view_is in
-    let line = rw c.deref.ensures.value at c.end_without_return-self-inside.ensures.line in
-    subst (ShowsBefore Text c.args.self.now.waiting (slice_range c.self.inside.held.items c.self.inside.start
-    c.end_without_return-self-inside.result))
-    (held_rest c.self.inside.held.items c.args.self.now.waiting c.self.inside.start c.self.inside.end is
-    c.self.invariant.ends)
-    (first_shows c.self.inside.held.items c.args.self.now.waiting c.self.inside.start c.self.inside.end _
-    is c.self.invariant.start_in c.self.invariant.ends
-    (omega (arith, c.if-is_part.false, c.len.ensures, c.self.invariant.end_in, c.self.inside.held.ok.0))
-    c.if-is_long.false line)
+    taken_shows c.args.self.now.waiting _ _ c.self.inside.end _ (rw is at c.self.invariant.ends)
+    (omega (arith, c.if-is_part.false, c.len.ensures, ap length is, c.self.invariant.end_in)) c.if-is_long.false
+    c.end_without_return-self-inside.ensures.bound
+    (rw (c.waiting.ensures, is) at c.end_without_return-self-inside.ensures.line) (rw is at c.take.ensures.taken)
+    (rw is at c.take.ensures.waiting)

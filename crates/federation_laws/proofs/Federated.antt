@@ -40,7 +40,7 @@ takes_honest : (world : World) (server : ℕ) (op : Op) → Stands world → Has
 takes_honest world server op s there pad who visit =
     let m = world.machine_of server in
     let k = keeps_here world server s in
-    let pushed = push_step world.made m.owned m.replica m.log m.held m.presence m.clock m.times pad who visit op s.made k
+    let pushed = push_step world.made m.owned m.replica m.log m.held m.presence m.clock m.made pad who visit op s.made k
     (takes_in world.made m.replica op m.log m.held s.made k there) in
     (pushed.in_limits, pushed.in_order)
 

@@ -1,6 +1,7 @@
 -- What a step of a server's machine leaves, and its reply to a push.
 use Rattle.std.proofs.Common.{◌≡◌, ◌≢◌, ℕ, ◌≤◌, ◌⊎◌, inl, inr, true, List, length, Option, Some, None, Result, Ok, Err}
 use Rattle.std.proofs.Common.{refl, sym, ap, bytes_eq, unwrap_or}
+use Rattle.op_log.specs.Made.{Made}
 use Rattle.pad_model.specs.Checked.{is_name}
 use Rattle.pad_model.specs.declared.op.Op.{Op}
 use Rattle.pad_model.specs.declared.who.Who.{Who}
@@ -27,15 +28,15 @@ use Rattle.federation_laws.proofs.Acts.{Makes, inserts, deletes, changes_all, co
 use Rattle.federation_laws.proofs.Keeps.{IsMade, Keeps, IsTakenIn, keeps_steps}
 
 -- the parts of a machine that federation concerns
-abbrev pub pad_with : Option Owned → ℕ → List Op → List Op → Presence → ℕ → List ℕ → Machine
-pad_with owned own log held p clock times = record {
+abbrev pub pad_with : Option Owned → ℕ → List Op → List Op → Presence → ℕ → Made → Machine
+pad_with owned own log held p clock known = record {
   owned = owned;
   replica = own;
   log = log;
   held = held;
   presence = p;
   clock = clock;
-  times = times;
+  made = known;
 }
 
 -- the act brings no operation
@@ -53,64 +54,64 @@ pub record ActsLocally (own : ℕ) (log held : List Op) (new : Machine) : Type 0
   pub waits : new.held ≡ held
   pub makes : Makes own log new.log
 
-stays : (owned : Option Owned) (own : ℕ) (log held : List Op) (p : Presence) (clock : ℕ) (times : List ℕ) →
-    ActsLocally own log held (pad_with owned own log held p clock times)
-stays owned own log held p clock times = record { replica = refl; waits = refl; makes = inl refl }
+stays : (owned : Option Owned) (own : ℕ) (log held : List Op) (p : Presence) (clock : ℕ) (known : Made) →
+    ActsLocally own log held (pad_with owned own log held p clock known)
+stays owned own log held p clock known = record { replica = refl; waits = refl; makes = inl refl }
 
-on_log : (owned : Option Owned) (own : ℕ) (log held new : List Op) (p : Presence) (clock : ℕ) (times : List ℕ) → Makes own log new →
-    ActsLocally own log held (pad_with owned own new held p clock times)
-on_log owned own log held new p clock times h = record { replica = refl; waits = refl; makes = h }
+on_log : (owned : Option Owned) (own : ℕ) (log held new : List Op) (p : Presence) (clock : ℕ) (known : Made) → Makes own log new →
+    ActsLocally own log held (pad_with owned own new held p clock known)
+on_log owned own log held new p clock known h = record { replica = refl; waits = refl; makes = h }
 
-author_acts : (owned : Option Owned) (own : ℕ) (log held : List Op) (p : Presence) (clock : ℕ) (times : List ℕ) (who : Owned) (name : List ℕ)
+author_acts : (owned : Option Owned) (own : ℕ) (log held : List Op) (p : Presence) (clock : ℕ) (known : Made) (who : Owned) (name : List ℕ)
     (visit : ℕ) (this : Act) → IsDelivered log → is_name name ≡ true → 1 ≤ own →
-    ActsLocally own log held (author_act who name visit this (pad_with owned own log held p clock times)).1
-author_acts owned own log held p clock times who name visit (act.Insert rev at text) d named low =
+    ActsLocally own log held (author_act who name visit this (pad_with owned own log held p clock known)).1
+author_acts owned own log held p clock known who name visit (act.Insert rev at text) d named low =
     on_log owned own log held _ p clock _ (inserts own name rev at text log d named low)
-author_acts owned own log held p clock times who name visit (act.Delete rev at len) d named low =
+author_acts owned own log held p clock known who name visit (act.Delete rev at len) d named low =
     on_log owned own log held _ p clock _ (deletes own name rev at len log d named low)
-author_acts owned own log held p clock times who name visit (act.Edit rev changes) d named low =
+author_acts owned own log held p clock known who name visit (act.Edit rev changes) d named low =
     on_log owned own log held _ p clock _ (changes_all own name rev changes log d named low)
-author_acts owned own log held p clock times who name visit (act.Comment rev at len text) d named low =
+author_acts owned own log held p clock known who name visit (act.Comment rev at len text) d named low =
     on_log owned own log held _ p clock _ (comments own name rev at len text log d named low)
-author_acts owned own log held p clock times who name visit (act.Resolve resolved) d named low =
+author_acts owned own log held p clock known who name visit (act.Resolve resolved) d named low =
     on_log owned own log held _ p clock _ (resolutions own name resolved log d named low)
-author_acts owned own log held p clock times who name visit other d named low =
+author_acts owned own log held p clock known who name visit other d named low =
     record { replica = refl; waits = refl; makes = inl refl }
 
-author_steps : (owned : Option Owned) (own : ℕ) (log held : List Op) (p : Presence) (clock : ℕ) (times : List ℕ) (who : Owned) (name : List ℕ)
+author_steps : (owned : Option Owned) (own : ℕ) (log held : List Op) (p : Presence) (clock : ℕ) (known : Made) (who : Owned) (name : List ℕ)
     (visit : Option ℕ) (this : Act) → IsDelivered log → is_name name ≡ true → 1 ≤ own →
-    ActsLocally own log held (author_step who name visit this (pad_with owned own log held p clock times)).1
-author_steps owned own log held p clock times who name visit this d named low =
+    ActsLocally own log held (author_step who name visit this (pad_with owned own log held p clock known)).1
+author_steps owned own log held p clock known who name visit this d named low =
     at (author_refusal who.rights p name visit this) refl
   where
     at : (r : Option Refusal) → author_refusal who.rights p name visit this ≡ r →
-        ActsLocally own log held (author_step who name visit this (pad_with owned own log held p clock times)).1
-    at (Some refusal) e = rw e (stays owned own log held p clock times)
-    at None e = rw e (author_acts owned own log held p clock times who name (unwrap_or visit 0) this d named low)
+        ActsLocally own log held (author_step who name visit this (pad_with owned own log held p clock known)).1
+    at (Some refusal) e = rw e (stays owned own log held p clock known)
+    at None e = rw e (author_acts owned own log held p clock known who name (unwrap_or visit 0) this d named low)
 
-peer_acts : (owned : Option Owned) (own : ℕ) (log held : List Op) (p : Presence) (clock : ℕ) (times : List ℕ) (version : Version) (this : Act) →
-    NoPush this → ActsLocally own log held (peer_act version this (pad_with owned own log held p clock times)).1
-peer_acts owned own log held p clock times version (act.Push op) none = absurd none
-peer_acts owned own log held p clock times version other none = record { replica = refl; waits = refl; makes = inl refl }
+peer_acts : (owned : Option Owned) (own : ℕ) (log held : List Op) (p : Presence) (clock : ℕ) (known : Made) (version : Version) (this : Act) →
+    NoPush this → ActsLocally own log held (peer_act version this (pad_with owned own log held p clock known)).1
+peer_acts owned own log held p clock known version (act.Push op) none = absurd none
+peer_acts owned own log held p clock known version other none = record { replica = refl; waits = refl; makes = inl refl }
 
-session_steps : (owned : Option Owned) (own : ℕ) (log held : List Op) (p : Presence) (clock : ℕ) (times : List ℕ) (pad : Owned) (who : Who)
+session_steps : (owned : Option Owned) (own : ℕ) (log held : List Op) (p : Presence) (clock : ℕ) (known : Made) (pad : Owned) (who : Who)
     (visit : Option ℕ) (this : Act) → IsDelivered log → IsNamed who → 1 ≤ own → NoPush this →
-    ActsLocally own log held (session_step pad who visit this (pad_with owned own log held p clock times)).1
-session_steps owned own log held p clock times pad Nobody visit this d named low none = stays owned own log held p clock times
-session_steps owned own log held p clock times pad (Author name) visit this d named low none =
-    author_steps owned own log held p clock times pad name visit this d named low
-session_steps owned own log held p clock times pad (Peer number version) visit this d named low none =
-    peer_acts owned own log held p clock times version this none
+    ActsLocally own log held (session_step pad who visit this (pad_with owned own log held p clock known)).1
+session_steps owned own log held p clock known pad Nobody visit this d named low none = stays owned own log held p clock known
+session_steps owned own log held p clock known pad (Author name) visit this d named low none =
+    author_steps owned own log held p clock known pad name visit this d named low
+session_steps owned own log held p clock known pad (Peer number version) visit this d named low none =
+    peer_acts owned own log held p clock known version this none
 
 -- a step whose act brings nothing
-pub local_step : (owned : Option Owned) (own : ℕ) (log held : List Op) (p : Presence) (clock : ℕ) (times : List ℕ) (pad : List ℕ) (who : Who)
+pub local_step : (owned : Option Owned) (own : ℕ) (log held : List Op) (p : Presence) (clock : ℕ) (known : Made) (pad : List ℕ) (who : Who)
     (visit : Option ℕ) (this : Act) → IsDelivered log → IsNamed who → 1 ≤ own → NoPush this →
-    ActsLocally own log held (step pad who visit this (pad_with owned own log held p clock times)).1
-local_step None own log held p clock times pad who visit this d named low none = stays None own log held p clock times
-local_step (Some owned) own log held p clock times pad who visit this d named low none =
+    ActsLocally own log held (step pad who visit this (pad_with owned own log held p clock known)).1
+local_step None own log held p clock known pad who visit this d named low none = stays None own log held p clock known
+local_step (Some owned) own log held p clock known pad who visit this d named low none =
     split (bytes_eq owned.name pad)
-    (λ e. rw e (session_steps (Some owned) own log held p clock times owned who visit this d named low none))
-    (λ e. rw e (stays (Some owned) own log held p clock times))
+    (λ e. rw e (session_steps (Some owned) own log held p clock known owned who visit this d named low none))
+    (λ e. rw e (stays (Some owned) own log held p clock known))
 
 -- the reply of a step to a push of an operation that was made, and what it leaves
 pub record IsPushStep (made : List Op) (own : ℕ) (result : Result PadReply Refusal × Machine) : Type 0 where
@@ -137,59 +138,59 @@ peer_not_bad e = absurd (cc)
 peer_not_fault : NotPeer ≢ PeerFault
 peer_not_fault e = absurd (cc)
 
-no_peer : (made : List Op) (owned : Option Owned) (own : ℕ) (log held : List Op) (p : Presence) (clock : ℕ) (times : List ℕ) →
-    Keeps made own log held → IsPushStep made own (Err NotPeer, pad_with owned own log held p clock times)
-no_peer made owned own log held p clock times k = record {
+no_peer : (made : List Op) (owned : Option Owned) (own : ℕ) (log held : List Op) (p : Presence) (clock : ℕ) (known : Made) →
+    Keeps made own log held → IsPushStep made own (Err NotPeer, pad_with owned own log held p clock known)
+no_peer made owned own log held p clock known k = record {
   in_limits = λ e. absurd (peer_not_bad (same_err NotPeer BadOp e));
   in_order = λ e. absurd (peer_not_fault (same_err NotPeer PeerFault e));
   replica = refl;
   kept = k;
 }
 
-settles : (made : List Op) (owned : Option Owned) (own : ℕ) (log held : List Op) (p : Presence) (clock : ℕ) (times : List ℕ)
+settles : (made : List Op) (owned : Option Owned) (own : ℕ) (log held : List Op) (p : Presence) (clock : ℕ) (known : Made)
     (answer : Result Pushed Refusal) (more rest : List Op) → IsMade made → IsTakenIn made own (answer, (more, rest)) →
-    IsPushStep made own (on_delivery (pad_with owned own log held p clock times) (settled (answer, (more, rest))))
-settles made owned own log held p clock times (Err refusal) more rest m t = record {
+    IsPushStep made own (on_delivery (pad_with owned own log held p clock known) (settled (answer, (more, rest))))
+settles made owned own log held p clock known (Err refusal) more rest m t = record {
   in_limits = λ e. t.in_limits (ap Err (same_err refusal BadOp e));
   in_order = λ e. t.in_order (ap Err (same_err refusal PeerFault e));
   replica = refl;
   kept = t.kept;
 }
-settles made owned own log held p clock times (Ok state) more rest m t = record {
+settles made owned own log held p clock known (Ok state) more rest m t = record {
   in_limits = λ e. absurd (answered _ BadOp e);
   in_order = λ e. absurd (answered _ PeerFault e);
   replica = refl;
   kept = keeps_steps made own (length rest) (unsettled (more, rest)) m t.kept;
 }
 
-push_session : (made : List Op) (owned : Option Owned) (own : ℕ) (log held : List Op) (p : Presence) (clock : ℕ) (times : List ℕ) (pad : Owned)
+push_session : (made : List Op) (owned : Option Owned) (own : ℕ) (log held : List Op) (p : Presence) (clock : ℕ) (known : Made) (pad : Owned)
     (who : Who) (visit : Option ℕ) (op : Op) → IsMade made → Keeps made own log held →
     IsTakenIn made own (received own op (log, held)) →
-    IsPushStep made own (session_step pad who visit (act.Push op) (pad_with owned own log held p clock times))
-push_session made owned own log held p clock times pad Nobody visit op m k t = no_peer made owned own log held p clock times k
-push_session made owned own log held p clock times pad (Author name) visit op m k t = no_peer made owned own log held p clock times k
-push_session made owned own log held p clock times pad (Peer number version) visit op m k t =
-    let taken = received own op (log, held) in settles made owned own log held p clock times taken.0 taken.1.0 taken.1.1 m t
+    IsPushStep made own (session_step pad who visit (act.Push op) (pad_with owned own log held p clock known))
+push_session made owned own log held p clock known pad Nobody visit op m k t = no_peer made owned own log held p clock known k
+push_session made owned own log held p clock known pad (Author name) visit op m k t = no_peer made owned own log held p clock known k
+push_session made owned own log held p clock known pad (Peer number version) visit op m k t =
+    let taken = received own op (log, held) in settles made owned own log held p clock known taken.0 taken.1.0 taken.1.1 m t
 
 -- a step whose act brings an operation that was made
-pub push_step : (made : List Op) (owned : Option Owned) (own : ℕ) (log held : List Op) (p : Presence) (clock : ℕ) (times : List ℕ) (pad : List ℕ)
+pub push_step : (made : List Op) (owned : Option Owned) (own : ℕ) (log held : List Op) (p : Presence) (clock : ℕ) (known : Made) (pad : List ℕ)
     (who : Who) (visit : Option ℕ) (op : Op) → IsMade made → Keeps made own log held →
     IsTakenIn made own (received own op (log, held)) →
-    IsPushStep made own (step pad who visit (act.Push op) (pad_with owned own log held p clock times))
-push_step made None own log held p clock times pad who visit op m k t = record {
+    IsPushStep made own (step pad who visit (act.Push op) (pad_with owned own log held p clock known))
+push_step made None own log held p clock known pad who visit op m k t = record {
   in_limits = λ e. absurd (not_bad (same_err NoPad BadOp e));
   in_order = λ e. absurd (not_fault (same_err NoPad PeerFault e));
   replica = refl;
   kept = k;
 }
-push_step made (Some owned) own log held p clock times pad who visit op m k t =
+push_step made (Some owned) own log held p clock known pad who visit op m k t =
     split (bytes_eq owned.name pad)
-    (λ e. rw e (push_session made (Some owned) own log held p clock times owned who visit op m k t))
-    (λ e. rw e (elsewhere made owned own log held p clock times k))
+    (λ e. rw e (push_session made (Some owned) own log held p clock known owned who visit op m k t))
+    (λ e. rw e (elsewhere made owned own log held p clock known k))
   where
-    elsewhere : (made : List Op) (owned : Owned) (own : ℕ) (log held : List Op) (p : Presence) (clock : ℕ) (times : List ℕ) →
-        Keeps made own log held → IsPushStep made own (Ok reply.Elsewhere, pad_with (Some owned) own log held p clock times)
-    elsewhere made owned own log held p clock times k = record {
+    elsewhere : (made : List Op) (owned : Owned) (own : ℕ) (log held : List Op) (p : Presence) (clock : ℕ) (known : Made) →
+        Keeps made own log held → IsPushStep made own (Ok reply.Elsewhere, pad_with (Some owned) own log held p clock known)
+    elsewhere made owned own log held p clock known k = record {
       in_limits = λ e. absurd (answered reply.Elsewhere BadOp e);
       in_order = λ e. absurd (answered reply.Elsewhere PeerFault e);
       replica = refl;

@@ -1,12 +1,13 @@
 -- A text inserted at a position of the present revision is at that position in the next.
 use Rattle.std.proofs.Common.{◌≡◌, ℕ, zero, suc, ◌+◌, ◌≤◌, ◌<◌, Bool, true, false, not, cond, List, [], ◌∷◌, ◌++◌}
 use Rattle.std.proofs.Common.{length, map, filter, take, drop, Option, Some, None, Result, Ok, Err, refl, sym, ap, ap₂}
-use Rattle.std.proofs.Common.{◌∙◌, subst, arith, append-nil, bytes_eq, ltb, ltb-false}
+use Rattle.std.proofs.Common.{◌∙◌, subst, arith, append-nil, bytes_eq, ltb, ltb-false, unwrap_or}
 use Rattle.std.proofs.Math.Seq.{take-length}
 use Rattle.std.proofs.lemmas.Bool.{both_ways}
 use Rattle.std.proofs.lemmas.List.Concat.{flat_map-append}
 use Rattle.std.proofs.lemmas.List.Elements.{filter-append}
 use Rattle.std.specs.List.{AllByRecursion, IsDistinct}
+use Rattle.op_log.specs.Made.{Made}
 use Rattle.pad_model.specs.Stamp.{Stamp, newer, same_stamp}
 use Rattle.pad_model.specs.Character.{Character, next, run_characters}
 use Rattle.pad_model.specs.History.{IsHistory, clock_of_characters}
@@ -224,56 +225,56 @@ elsewhere log at text m now name e = absurd (no now name e)
         ≡ Ok (reply.Made now name) → ⊥
     no now name e = cc
 
-insert_types : (owned : Option Owned) (own : ℕ) (author : List ℕ) (at : ℕ) (text : List ℕ) (log held : List Op)
-    (p : Presence) (clock : ℕ) (times : List ℕ) → IsHistory log →
-    TypedBy log at text (on_log (pad_with owned own log held p clock times) (insert own author (length log) at text log))
-insert_types owned own author at text log held p clock times h =
+insert_types : (owned : Option Owned) (own : ℕ) (author : List ℕ) (visit at : ℕ) (text : List ℕ) (log held : List Op)
+    (p : Presence) (clock : ℕ) (known : Made) → IsHistory log →
+    TypedBy log at text (on_log (pad_with owned own log held p clock known) visit (insert own author (length log) at text log))
+insert_types owned own author visit at text log held p clock known h =
     case (edit_refusal (length log) (change.Insert at text ∷ []) log) refl
   where
     case : (r : Option Refusal) → edit_refusal (length log) (change.Insert at text ∷ []) log ≡ r →
-        TypedBy log at text (on_log (pad_with owned own log held p clock times) (insert own author (length log) at text log))
+        TypedBy log at text (on_log (pad_with owned own log held p clock known) visit (insert own author (length log) at text log))
     case (Some refusal) e =
-        subst (λ d. TypedBy log at text (on_log (pad_with owned own log held p clock times) (told_name d)))
+        subst (λ d. TypedBy log at text (on_log (pad_with owned own log held p clock known) visit (told_name d)))
         (sym (edit_refused own (length log) author (change.Insert at text ∷ []) log refusal e))
-        (refused log at text refusal (pad_with owned own log held p clock times))
+        (refused log at text refusal (pad_with owned own log held p clock known))
     case None e =
-        subst (λ d. TypedBy log at text (on_log (pad_with owned own log held p clock times) (told_name d)))
+        subst (λ d. TypedBy log at text (on_log (pad_with owned own log held p clock known) visit (told_name d)))
         (sym (edit_made own (length log) author (change.Insert at text ∷ []) log e))
         (λ now name told. in_place own author at text log h e)
 
-author_types : (owned : Option Owned) (own : ℕ) (at : ℕ) (text : List ℕ) (log held : List Op) (p : Presence) (clock : ℕ) (times : List ℕ)
+author_types : (owned : Option Owned) (own : ℕ) (at : ℕ) (text : List ℕ) (log held : List Op) (p : Presence) (clock : ℕ) (known : Made)
     (pad : Owned) (author : List ℕ) (visit : Option ℕ) → IsHistory log →
-    TypedBy log at text (author_step pad author visit (act.Insert (length log) at text) (pad_with owned own log held p clock times))
-author_types owned own at text log held p clock times pad author visit h =
+    TypedBy log at text (author_step pad author visit (act.Insert (length log) at text) (pad_with owned own log held p clock known))
+author_types owned own at text log held p clock known pad author visit h =
     case (author_refusal pad.rights p author visit (act.Insert (length log) at text)) refl
   where
     case : (r : Option Refusal) → author_refusal pad.rights p author visit (act.Insert (length log) at text) ≡ r →
         TypedBy log at text (author_step pad author visit (act.Insert (length log) at text)
-        (pad_with owned own log held p clock times))
-    case (Some refusal) e = rw e (refused log at text refusal (pad_with owned own log held p clock times))
-    case None e = rw e (insert_types owned own author at text log held p clock times h)
+        (pad_with owned own log held p clock known))
+    case (Some refusal) e = rw e (refused log at text refusal (pad_with owned own log held p clock known))
+    case None e = rw e (insert_types owned own author (unwrap_or visit 0) at text log held p clock known h)
 
-session_types : (owned : Option Owned) (own : ℕ) (at : ℕ) (text : List ℕ) (log held : List Op) (p : Presence) (clock : ℕ) (times : List ℕ)
+session_types : (owned : Option Owned) (own : ℕ) (at : ℕ) (text : List ℕ) (log held : List Op) (p : Presence) (clock : ℕ) (known : Made)
     (pad : Owned) (who : Who) (visit : Option ℕ) → IsHistory log →
-    TypedBy log at text (session_step pad who visit (act.Insert (length log) at text) (pad_with owned own log held p clock times))
-session_types owned own at text log held p clock times pad Nobody visit h =
-    refused log at text NoSession (pad_with owned own log held p clock times)
-session_types owned own at text log held p clock times pad (Author author) visit h =
-    author_types owned own at text log held p clock times pad author visit h
-session_types owned own at text log held p clock times pad (Peer number version) visit h =
-    refused log at text NoSession (pad_with owned own log held p clock times)
+    TypedBy log at text (session_step pad who visit (act.Insert (length log) at text) (pad_with owned own log held p clock known))
+session_types owned own at text log held p clock known pad Nobody visit h =
+    refused log at text NoSession (pad_with owned own log held p clock known)
+session_types owned own at text log held p clock known pad (Author author) visit h =
+    author_types owned own at text log held p clock known pad author visit h
+session_types owned own at text log held p clock known pad (Peer number version) visit h =
+    refused log at text NoSession (pad_with owned own log held p clock known)
 
-step_types : (owned : Option Owned) (own : ℕ) (at : ℕ) (text : List ℕ) (log held : List Op) (p : Presence) (clock : ℕ) (times : List ℕ)
+step_types : (owned : Option Owned) (own : ℕ) (at : ℕ) (text : List ℕ) (log held : List Op) (p : Presence) (clock : ℕ) (known : Made)
     (pad : List ℕ) (who : Who) (visit : Option ℕ) → IsHistory log →
-    TypedBy log at text (step pad who visit (act.Insert (length log) at text) (pad_with owned own log held p clock times))
-step_types None own at text log held p clock times pad who visit h = refused log at text NoPad (pad_with None own log held p clock times)
-step_types (Some owned) own at text log held p clock times pad who visit h =
+    TypedBy log at text (step pad who visit (act.Insert (length log) at text) (pad_with owned own log held p clock known))
+step_types None own at text log held p clock known pad who visit h = refused log at text NoPad (pad_with None own log held p clock known)
+step_types (Some owned) own at text log held p clock known pad who visit h =
     split (bytes_eq owned.name pad)
-    (λ e. rw e (session_types (Some owned) own at text log held p clock times owned who visit h))
-    (λ e. rw e (elsewhere log at text (pad_with (Some owned) own log held p clock times)))
+    (λ e. rw e (session_types (Some owned) own at text log held p clock known owned who visit h))
+    (λ e. rw e (elsewhere log at text (pad_with (Some owned) own log held p clock known)))
 
 -- what is typed is at its position
 pub types_in_place : (m : Machine) → IsHistory m.log → TypesInPlace m
 types_in_place m h pad who visit at text now name new e =
     subst (λ (x : Machine). InPlace m.log at text x.log) (ap (λ r. r.1) e)
-    (step_types m.owned m.replica at text m.log m.held m.presence m.clock m.times pad who visit h now name (ap (λ r. r.0) e))
+    (step_types m.owned m.replica at text m.log m.held m.presence m.clock m.made pad who visit h now name (ap (λ r. r.0) e))

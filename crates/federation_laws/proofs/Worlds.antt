@@ -220,7 +220,7 @@ goes_step world server event m s may is new next = at (push_or_not event.act.now
         Goes world.made server (world.made ++ made_by event.act.now m.log new.log) new
     at (inl p) =
         let there = honest_made event.act.now p.0 world.made p.1 may.honest in
-        let pushed = push_step world.made m.owned m.replica m.log m.held m.presence m.clock m.times event.pad.now event.who.now
+        let pushed = push_step world.made m.owned m.replica m.log m.held m.presence m.clock m.made event.pad.now event.who.now
         event.visit p.0 s.made kept_here (takes_in world.made m.replica p.0 m.log m.held s.made kept_here there) in
         let same : new ≡ pushed_to event p.0 m =
         next ∙ ap (λ (a : Act). (step event.pad.now event.who.now event.visit a m).1) p.1 in
@@ -230,7 +230,7 @@ goes_step world server event m s may is new next = at (push_or_not event.act.now
         (subst (λ (x : Machine). Keeps world.made server x.log x.held) (sym same)
         (subst (λ n. Keeps world.made n (pushed_to event p.0 m).log (pushed_to event p.0 m).held) replica pushed.kept))
     at (inr none) =
-        let acts = local_step m.owned m.replica m.log m.held m.presence m.clock m.times event.pad.now event.who.now event.visit
+        let acts = local_step m.owned m.replica m.log m.held m.presence m.clock m.made event.pad.now event.who.now event.visit
         event.act.now kept.delivered may.named (subst (λ n. 1 ≤ n) (sym replica) may.number) none in
         let done : ActsLocally m.replica m.log m.held new = subst (ActsLocally m.replica m.log m.held)
         (sym next) acts in

@@ -1,6 +1,7 @@
 -- The lemmas, by topic.
 pub mod Kept
 pub mod Loops
+pub mod MakerLists
 pub mod Marks
 pub mod Next
 pub mod Names

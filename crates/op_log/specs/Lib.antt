@@ -6,6 +6,8 @@ pub mod Inside
 pub mod Items
 pub mod Kept
 pub mod Log
+pub mod Made
+pub mod Makers
 pub mod Number
 pub mod Packed
 pub mod Page

@@ -5,6 +5,8 @@
 #![tactic(auto)]
 
 mod index;
+mod made_list;
+mod maker_list;
 mod number;
 mod op_log;
 mod op_store;
@@ -15,5 +17,7 @@ mod time_list;
 mod track;
 mod write;
 
+pub use made_list::MadeList;
+pub use maker_list::{MakerList, Tally};
 pub use op_log::{FoundOp, OpLog};
 pub use time_list::TimeList;

@@ -1,7 +1,7 @@
 -- From what an act does to a part of a pad to what it does to the pad.
 use Rattle.std.proofs.Common.{◌≡◌, ◌≤◌, Bool, true, false, cond, bytes_eq, inl, inr, ℕ, List, length, Option, Some}
 use Rattle.std.proofs.Common.{Result, Ok, Err, IsTrue, sym, ap, ap₂, ◌∙◌}
-use Rattle.std.proofs.Common.{subst, le-ltb, arith, max, replicate, ◌-◌, ◌++◌, ◌⊎◌}
+use Rattle.std.proofs.Common.{subst, le-ltb, max, ◌-◌, ◌⊎◌}
 use Rattle.std.specs.List.{AllByRecursion}
 use Rattle.pad_model.specs.Checked.{is_name}
 use Rattle.pad_model.specs.Answers.{Answers}
@@ -21,6 +21,7 @@ use Rattle.pad_core.specs.Exchange.{Stopped, push}
 use Rattle.pad_core.specs.Ran.{IsCutShort}
 use Rattle.pad_core.specs.Restart.{delivered_again, restore_operation}
 use Rattle.pad_core.specs.Times.{timed}
+use Rattle.op_log.specs.Made.{Made, more}
 use Rattle.op_log.specs.Times.{last_time}
 use Rattle.rights.specs.Rights.{Rights, can_have, hand as handed}
 use Rattle.rights.specs.declared.grantee.Grantee.{Grantee}
@@ -37,80 +38,80 @@ use Rattle.pad_core.specs.declared.reply.PadReply.{PadReply}
 use Rattle.pad_core.specs.declared.reply.PadReply.TheVariants.{Done}
 
 -- the machine of its parts
-abbrev pub machine : Option Owned → ℕ → List Op → List Op → Presence → ℕ → List ℕ → Machine
-machine o replica log held p clock times = record {
+abbrev pub machine : Option Owned → ℕ → List Op → List Op → Presence → ℕ → Made → Machine
+machine o replica log held p clock made = record {
   owned = o;
   replica = replica;
   log = log;
   held = held;
   presence = p;
   clock = clock;
-  times = times;
+  made = made;
 }
 
--- where the times are filled up to a log's length, each operation that the log got has its time
-pub filled_timed : (clock : ℕ) (log new : List Op) (times filled : List ℕ) → length times ≡ length log →
-    filled ≡ times ++ replicate (length new - length times) (max clock (last_time times)) →
-    filled ≡ timed clock log new times
-filled_timed clock log new times filled long is =
-    is ∙ ap (λ n. times ++ replicate (length new - n) (max clock (last_time times))) long
+-- where what is known is filled up to a log's length, each operation that the log got has its time and its visit
+pub filled_timed : (clock visit : ℕ) (log new : List Op) (made filled : Made) → length made.times ≡ length log →
+    filled ≡ more (length new - length made.times) (max clock (last_time made.times)) visit made →
+    filled ≡ timed clock visit log new made
+filled_timed clock visit log new made filled long is =
+    is ∙ ap (λ n. more (length new - n) (max clock (last_time made.times)) visit made) long
 
 -- an act on the log
-pub log_answers : (o : Option Owned) (replica : ℕ) (log new held : List Op) (p : Presence) (clock : ℕ)
-    (times filled : List ℕ)
+pub log_answers : (o : Option Owned) (replica : ℕ) (log new held : List Op) (p : Presence) (clock visit : ℕ)
+    (made filled : Made)
     (expected : Result PadReply Refusal × List Op) (result : Result PadReply Refusal) →
-    filled ≡ timed clock log new times → Answers log expected result new →
-    Answers (machine o replica log held p clock times) (on_log (machine o replica log held p clock times) expected)
+    filled ≡ timed clock visit log new made → Answers log expected result new →
+    Answers (machine o replica log held p clock made) (on_log (machine o replica log held p clock made) visit expected)
     result (machine o replica new held p clock filled)
-log_answers o replica log new held p clock times filled expected result fills (inl h) =
+log_answers o replica log new held p clock visit made filled expected result fills (inl h) =
     inl (
       h.0,
-      ap₂ (λ (l : List Op) (ts : List ℕ). machine o replica l held p clock ts) h.1
-          (fills ∙ ap (λ l. timed clock log l times) h.1 ∙ timed_same clock log times),
+      ap₂ (λ (l : List Op) (ts : Made). machine o replica l held p clock ts) h.1
+          (fills ∙ ap (λ l. timed clock visit log l made) h.1 ∙ timed_same clock visit log made),
       h.2,
     )
-log_answers o replica log new held p clock times filled expected result fills (inr h) =
+log_answers o replica log new held p clock visit made filled expected result fills (inr h) =
     inr (
     ap (λ d. (
       d.0,
-      machine o replica d.1 held p clock (timed clock log d.1 times),
+      machine o replica d.1 held p clock (timed clock visit log d.1 made),
     )) h
-    ∙ ap (λ (ts : List ℕ). (let r : Result PadReply Refusal = result in r, machine o replica new held p clock ts))
+    ∙ ap (λ (ts : Made). (let r : Result PadReply Refusal = result in r, machine o replica new held p clock ts))
     (sym fills)
     )
 
 -- an act of an author that changes the log
 pub write_answers : (o : Option Owned) (replica : ℕ) (log new held : List Op) (p : Presence) (clock : ℕ)
-    (times filled : List ℕ) (owned : Owned) (name : List ℕ) (visit : ℕ) (this : Act)
+    (made filled : Made) (owned : Owned) (name : List ℕ) (visit : ℕ) (this : Act)
     (expected : Result PadReply Refusal × List Op) (result : Result PadReply Refusal) (m : Machine) →
-    author_outcome owned name visit this (machine o replica log held p clock times) ≡ writes expected →
-    length times ≡ length log →
-    filled ≡ times ++ replicate (length new - length times) (max clock (last_time times)) →
-    Answers log expected result new → machine o replica log held p clock times ≡ m → m.owned ≡ Some owned →
+    author_outcome owned name visit this (machine o replica log held p clock made) ≡ writes visit expected →
+    length made.times ≡ length log →
+    filled ≡ more (length new - length made.times) (max clock (last_time made.times)) visit made →
+    Answers log expected result new → machine o replica log held p clock made ≡ m → m.owned ≡ Some owned →
     Answers m (author_act owned name visit this m) result (machine o replica new held p clock filled)
-write_answers o replica log new held p clock times filled owned name visit this expected result m outcome long fills
+write_answers o replica log new held p clock made filled owned name visit this expected result m outcome long fills
     done same named =
     subst (λ (k : Machine). Answers k (author_act owned name visit this k) result
     (machine o replica new held p clock filled)) same
-    (subst (λ (x : Outcome). Answers (machine o replica log held p clock times)
-    (applied (Some owned) x (machine o replica log held p clock times)) result
+    (subst (λ (x : Outcome). Answers (machine o replica log held p clock made)
+    (applied (Some owned) x (machine o replica log held p clock made)) result
     (machine o replica new held p clock filled)) (sym outcome)
-    (log_answers o replica log new held p clock times filled expected result
-    (filled_timed clock log new times filled long fills) done))
+    (log_answers o replica log new held p clock visit made filled expected result
+    (filled_timed clock visit log new made filled long fills) done))
 
 -- an operation that a peer pushes
 pub push_answers : (o : Option Owned) (replica : ℕ) (log new held held' : List Op) (p : Presence) (clock : ℕ)
-    (times filled : List ℕ) (name : List ℕ) (number : ℕ) (version : Version) (this : Act) (op : Op)
+    (made filled : Made) (name : List ℕ) (number : ℕ) (version : Version) (this : Act) (op : Op)
     (result : Result PadReply Refusal) (m : Machine) →
-    this ≡ act.Push op → length times ≡ length log →
-    filled ≡ times ++ replicate (length new - length times) (max clock (last_time times)) →
+    this ≡ act.Push op → length made.times ≡ length log →
+    filled ≡ more (length new - length made.times) (max clock (last_time made.times)) 0 made →
     Answers (log, held) (push replica op (log, held)) result (new, held')
     ⊎ ((result ≡ Err Memory) × Stopped replica op (log, held) (new, held')) →
-    machine o replica log held p clock times ≡ m → name_of m.owned ≡ Some name →
+    machine o replica log held p clock made ≡ m → name_of m.owned ≡ Some name →
     Answers m (peer_act version this m) result (machine o replica new held' p clock filled)
     ⊎ ((result ≡ Err Memory) × IsCutShort name (Peer number version) this m
     (machine o replica new held' p clock filled))
-push_answers o replica log new held held' p clock times filled name number version this op result m is long fills done
+push_answers o replica log new held held' p clock made filled name number version this op result m is long fills done
     same named =
     subst (λ (k : Machine). Goal k) same (by_end done (subst (λ (k : Machine). name_of k.owned ≡ Some name) (sym same)
     named))
@@ -121,23 +122,23 @@ push_answers o replica log new held held' p clock times filled name number versi
         (machine o replica new held' p clock filled))
 
     old : Machine
-    old = machine o replica log held p clock times
+    old = machine o replica log held p clock made
 
-    fit : filled ≡ timed clock log new times
-    fit = filled_timed clock log new times filled long fills
+    fit : filled ≡ timed clock 0 log new made
+    fit = filled_timed clock 0 log new made filled long fills
 
     by_answer : Answers (log, held) (push replica op (log, held)) result (new, held') →
         Answers old (on_delivery old (push replica op (log, held))) result (machine o replica new held' p clock filled)
     by_answer (inl h) = inl (
       h.0,
       (let kept : new ≡ log = ap (λ (b : List Op × List Op). b.0) h.1 in
-          ap₂ (λ (b : List Op × List Op) (ts : List ℕ). machine o replica b.0 b.1 p clock ts) h.1
-          (fit ∙ ap (λ l. timed clock log l times) kept ∙ timed_same clock log times)),
+          ap₂ (λ (b : List Op × List Op) (ts : Made). machine o replica b.0 b.1 p clock ts) h.1
+          (fit ∙ ap (λ l. timed clock 0 log l made) kept ∙ timed_same clock 0 log made)),
       h.2,
     )
     by_answer (inr h) = inr (
-        ap (λ d. (d.0, machine o replica d.1.0 d.1.1 p clock (timed clock log d.1.0 times))) h
-        ∙ ap (λ (ts : List ℕ). (let r : Result PadReply Refusal = result in r, machine o replica new held' p clock ts))
+        ap (λ d. (d.0, machine o replica d.1.0 d.1.1 p clock (timed clock 0 log d.1.0 made))) h
+        ∙ ap (λ (ts : Made). (let r : Result PadReply Refusal = result in r, machine o replica new held' p clock ts))
         (sym fit)
         )
 
@@ -152,32 +153,32 @@ push_answers o replica log new held held' p clock times filled name number versi
 
 -- an operation that is delivered again
 pub restored_answers : (o : Option Owned) (replica : ℕ) (log new held : List Op) (p : Presence) (clock : ℕ)
-    (times filled : List ℕ) (op : Op) (at : ℕ) (result : Result (Unit {0}) Refusal) (m : Machine) →
-    length times ≡ length log →
-    filled ≡ times ++ replicate (length new - length times) (max at (last_time times)) →
-    Answers log (delivered_again op log) result new → machine o replica log held p clock times ≡ m →
-    Answers m (restore_operation op at m) result (machine o replica new held p clock filled)
-restored_answers o replica log new held p clock times filled op at result m long fills done same =
-    subst (λ (k : Machine). Answers k (restore_operation op at k) result
+    (made filled : Made) (op : Op) (at visit : ℕ) (result : Result (Unit {0}) Refusal) (m : Machine) →
+    length made.times ≡ length log →
+    filled ≡ more (length new - length made.times) (max at (last_time made.times)) visit made →
+    Answers log (delivered_again op log) result new → machine o replica log held p clock made ≡ m →
+    Answers m (restore_operation op at visit m) result (machine o replica new held p clock filled)
+restored_answers o replica log new held p clock made filled op at visit result m long fills done same =
+    subst (λ (k : Machine). Answers k (restore_operation op at visit k) result
     (machine o replica new held p clock filled)) same (by_end done)
   where
     old : Machine
-    old = machine o replica log held p clock times
+    old = machine o replica log held p clock made
 
-    fit : filled ≡ timed at log new times
-    fit = filled_timed at log new times filled long fills
+    fit : filled ≡ timed at visit log new made
+    fit = filled_timed at visit log new made filled long fills
 
     by_end : Answers log (delivered_again op log) result new →
-        Answers old (restore_operation op at old) result (machine o replica new held p clock filled)
+        Answers old (restore_operation op at visit old) result (machine o replica new held p clock filled)
     by_end (inl h) = inl (
       h.0,
-      ap₂ (λ (l : List Op) (ts : List ℕ). machine o replica l held p clock ts) h.1
-          (fit ∙ ap (λ l. timed at log l times) h.1 ∙ timed_same at log times),
+      ap₂ (λ (l : List Op) (ts : Made). machine o replica l held p clock ts) h.1
+          (fit ∙ ap (λ l. timed at visit log l made) h.1 ∙ timed_same at visit log made),
       h.2,
     )
     by_end (inr h) = inr (
-        ap (λ d. (d.0, machine o replica d.1 held p clock (timed at log d.1 times))) h
-        ∙ ap (λ (ts : List ℕ). (let r : Result (Unit {0}) Refusal = result in r, machine o replica new held p clock ts))
+        ap (λ d. (d.0, machine o replica d.1 held p clock (timed at visit log d.1 made))) h
+        ∙ ap (λ (ts : Made). (let r : Result (Unit {0}) Refusal = result in r, machine o replica new held p clock ts))
         (sym fit)
         )
 

@@ -5,6 +5,7 @@ use Rattle.std.proofs.Common.{le-ltb, arith, take_all}
 use Rattle.std.proofs.lemmas.List.Sorted.{length_permutation}
 use Rattle.pad_model.specs.Operation.{characters_in}
 use Rattle.pad_model.specs.Visible.{runs_of, text_of}
+use Rattle.op_log.specs.Made.{Made}
 use Rattle.pad_model.specs.declared.op.Op.{Op}
 use Rattle.pad_model.specs.declared.refusal.Refusal.{Refusal}
 use Rattle.pad_model.specs.declared.refusal.Refusal.TheVariants.{Memory, NoSession}
@@ -118,14 +119,14 @@ read_session a told owned (Peer number version) visit m new reply is done =
 
 read_step : (a : Act) (told : List Op → Result PadReply Refusal) (pad : List ℕ) (who : Who) (visit : Option ℕ)
     (new : Machine) (reply : PadReply) (o : Option Owned) (replica : ℕ) (log held : List Op) (p : Presence)
-    (clock : ℕ) (times : List ℕ) → IsReading a told →
+    (clock : ℕ) (made : Made) → IsReading a told →
     (reply ≡ Elsewhere → ⊥) → (let m : Machine =
-    record { owned = o; replica = replica; log = log; held = held; presence = p; clock = clock; times = times } in
+    record { owned = o; replica = replica; log = log; held = held; presence = p; clock = clock; made = made } in
     step pad who visit a m
     ≡ (Ok reply, new) → (told m.log ≡ Ok reply) × (m ≡ new))
-read_step a told pad who visit new reply None replica log held p clock times is here done =
+read_step a told pad who visit new reply None replica log held p clock made is here done =
     absurd (ok_err reply _ (ap (λ d. d.0) done))
-read_step a told pad who visit new reply (Some owned) replica log held p clock times is here done =
+read_step a told pad who visit new reply (Some owned) replica log held p clock made is here done =
     split (bytes_eq owned.name pad)
     (λ yes. read_session a told owned who visit _ new reply is (rw yes at done))
     (λ no. absurd (here (same_ok Elsewhere reply (ap (λ d. d.0) (rw no at done)))))
@@ -171,7 +172,7 @@ last_reads m new events replies ran delivered before event answered reply events
         step event.pad.now event.who.now event.visit a mid ≡ (Ok reply, new) → told ≡ Ok reply
     through a read reads is want done =
         let got = read_step a read event.pad.now event.who.now event.visit new reply mid.owned mid.replica mid.log
-        mid.held mid.presence mid.clock mid.times is here done in
+        mid.held mid.presence mid.clock mid.made is here done in
         let alike : read new.log ≡ read other = same_some (read new.log) (read other)
         (sym (reads new.log) ∙ read_alike new.log other delivered sound same a ∙ reads other) in
         same_some told (read other) (sym want ∙ reads other) ∙ sym alike ∙ ap (λ (k : Machine). read k.log) (sym got.1)

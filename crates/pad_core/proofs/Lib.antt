@@ -20,6 +20,7 @@ pub mod Noted
 pub mod Others
 pub mod Pulled
 pub mod Receives
+pub mod Rejoined
 pub mod Releases
 pub mod Restored
 pub mod Runs

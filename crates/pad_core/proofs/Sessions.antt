@@ -2,6 +2,7 @@
 use Rattle.std.proofs.Common.{◌≡◌, ◌⊎◌, inl, inr, ℕ, Bool, true, false, List, Option, Some, Result, Err, IsOk, refl, sym, ap, ◌∙◌}
 use Rattle.std.proofs.Common.{subst, bytes_eq}
 use Rattle.pad_model.specs.Answers.{Answers}
+use Rattle.op_log.specs.Made.{Made}
 use Rattle.pad_model.specs.declared.op.Op.{Op}
 use Rattle.pad_model.specs.declared.refusal.Refusal.{Refusal}
 use Rattle.pad_model.specs.declared.refusal.Refusal.TheVariants.{Memory}
@@ -19,7 +20,7 @@ use Rattle.pad_core.specs.declared.reply.PadReply.{PadReply}
 
 -- a step on a pad of its name is the session's
 step_here : (owned : Owned) (who : Who) (visit : Option ℕ) (this : Act) (pad : List ℕ) (o : Option Owned) (replica : ℕ)
-    (log held : List Op) (p : Presence) (clock : ℕ) (times : List ℕ) → o ≡ Some owned →
+    (log held : List Op) (p : Presence) (clock : ℕ) (made : Made) → o ≡ Some owned →
     bytes_eq owned.name pad ≡ true →
     (let m : Machine = record {
       owned = o;
@@ -28,10 +29,10 @@ step_here : (owned : Owned) (who : Who) (visit : Option ℕ) (this : Act) (pad :
       held = held;
       presence = p;
       clock = clock;
-      times = times;
+      made = made;
     } in
     step pad who visit this m ≡ session_step owned who visit this m)
-step_here owned who visit this pad o replica log held p clock times is named = rw (is, named) refl
+step_here owned who visit this pad o replica log held p clock made is named = rw (is, named) refl
 
 -- so is what it leaves
 stepped_here : (owned : Owned) (event : PadEvent) (who : Who) (m new : Machine) (result : Result PadReply Refusal) →
@@ -45,7 +46,7 @@ stepped_here : (owned : Owned) (event : PadEvent) (who : Who) (m new : Machine) 
 stepped_here owned event who m new result is same named by takes (inl h) =
     let here = ap (λ (w : Who). step event.pad.now w event.visit event.act.now m) by
     ∙ step_here owned who event.visit event.act.now event.pad.now m.owned m.replica m.log m.held m.presence
-    m.clock m.times is named in
+    m.clock m.made is named in
     inl (
       h.0,
       h.1,
@@ -57,7 +58,7 @@ stepped_here owned event who m new result is same named by takes (inl h) =
 stepped_here owned event who m new result is same named by takes (inr h) =
     let here = ap (λ (w : Who). step event.pad.now w event.visit event.act.now m) by
     ∙ step_here owned who event.visit event.act.now event.pad.now m.owned m.replica m.log m.held m.presence
-    m.clock m.times is named in
+    m.clock m.made is named in
     inr (here ∙ h)
 
 -- what is answered exactly is out of memory at no answer

@@ -1,44 +1,33 @@
--- Each operation that a step adds gets the time of that step.
-use Rattle.std.proofs.Common.{◌≡◌, ℕ, ◌+◌, ◌-◌, ◌++◌, ◌∷◌, [], List, length, max, replicate, Bool, true, false, cond, not, Option}
-use Rattle.std.proofs.Common.{Some, None, Result, Ok, Err, bytes_eq, refl, sym, ap, ◌∙◌, subst, arith, append-nil, length-append, unwrap_or}
-use Rattle.op_log.specs.Times.{last_time}
+-- Each operation that a step adds gets the time and the visit of that step.
+use Rattle.std.proofs.Common.{◌≡◌, ℕ, ◌+◌, ◌-◌, ◌++◌, List, length, sym, ap, ap₂, ◌∙◌, arith, append-nil, length-append}
+use Rattle.op_log.specs.Made.{Made, more}
 use Rattle.pad_model.specs.declared.op.Op.{Op}
-use Rattle.pad_model.specs.declared.refusal.Refusal.{Refusal}
-use Rattle.pad_model.specs.declared.who.Who.{Who}
-use Rattle.pad_model.specs.declared.who.Who.TheVariants.{Nobody, Author, Peer}
-use Rattle.pad_core.specs.Machine.{Machine, Outcome, applied, author_act, author_outcome, author_refusal, author_step, step, session_step}
-use Rattle.pad_core.specs.Machine.Outcome.{reads, writes, visits, grants, names, delivers}
+use Rattle.pad_core.specs.Machine.{Machine}
 use Rattle.pad_core.specs.Times.{time_now, timed}
-use Rattle.pad_core.specs.declared.act.Act.{Act}
-use Rattle.pad_core.specs.declared.owned.Owned.{Owned}
-use Rattle.pad_core.specs.declared.reply.PadReply.{PadReply}
-use Rattle.pad_core.specs.declared.reply.PadReply.TheVariants as reply
 
--- where the log stays, so do the times
-pub timed_same : (clock : ℕ) (log : List Op) (times : List ℕ) → timed clock log log times ≡ times
-timed_same clock log times =
+-- no more operations leave what is known as it was
+pub none_more : (at visit : ℕ) (made : Made) → more 0 at visit made ≡ made
+none_more at visit made =
+    ap₂ (λ (times visits : List ℕ). (let m : Made = record { times = times; visits = visits } in m))
+    (append-nil made.times) (append-nil made.visits)
+
+-- where the log stays, so does what is known of its operations
+pub timed_same : (clock visit : ℕ) (log : List Op) (made : Made) → timed clock visit log log made ≡ made
+timed_same clock visit log made =
     let none : length log - length log ≡ 0 = omega arith in
-    ap (λ n. times ++ replicate n (time_now clock times)) none ∙ append-nil times
+    ap (λ n. more n (time_now clock made.times) visit made) none ∙ none_more (time_now clock made.times) visit made
 
--- where operations are added, each has the time of now
-pub timed_more : (clock : ℕ) (log more : List Op) (times : List ℕ) →
-    timed clock log (log ++ more) times ≡ times ++ replicate (length more) (time_now clock times)
-timed_more clock log more times =
-    let all : length (log ++ more) ≡ length log + length more = length-append log more in
-    let few : length (log ++ more) - length log ≡ length more = omega (arith, all) in
-    ap (λ n. times ++ replicate n (time_now clock times)) few
+-- where operations are added, each has the time of now, and the visit
+pub timed_more : (clock visit : ℕ) (log added : List Op) (made : Made) →
+    timed clock visit log (log ++ added) made ≡ more (length added) (time_now clock made.times) visit made
+timed_more clock visit log added made =
+    let all : length (log ++ added) ≡ length log + length added = length-append log added in
+    let few : length (log ++ added) - length log ≡ length added = omega (arith, all) in
+    ap (λ n. more n (time_now clock made.times) visit made) few
 
--- the times after a step are those before it and that of each operation that it added
-abbrev pub Times : Machine → Machine → Type 0
-Times old after = after.times ≡ timed old.clock old.log after.log old.times
+-- what is known after a step in a visit is what was known before it, and the time and visit of each operation that it added
+abbrev pub Times : ℕ → Machine → Machine → Type 0
+Times visit old after = after.made ≡ timed old.clock visit old.log after.log old.made
 
-pub same_times : (m : Machine) → Times m m
-same_times m = sym (timed_same m.clock m.log m.times)
-
-applied_times : (owned : Option Owned) (outcome : Outcome) (m : Machine) → Times m (applied owned outcome m).1
-applied_times owned (reads answer) m = same_times m
-applied_times owned (writes done) m = refl
-applied_times owned (visits done) m = same_times m
-applied_times owned (grants done) m = same_times m
-applied_times owned (names done) m = same_times m
-applied_times owned (delivers done) m = refl
+pub same_times : (visit : ℕ) (m : Machine) → Times visit m m
+same_times visit m = sym (timed_same m.clock visit m.log m.made)

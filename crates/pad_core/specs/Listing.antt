@@ -3,6 +3,7 @@ use Rattle.std.specs.Prelude.{◌≡◌, ℕ, List, [], ◌∷◌, Option, Some,
 use Rattle.std.specs.Prelude.{if◌then◌else◌}
 use Rattle.pad_model.specs.declared.who.Who.{Who}
 use Rattle.pad_model.specs.declared.who.Who.TheVariants.{Author}
+use Rattle.op_log.specs.Made.{nothing_made}
 use Rattle.rights.specs.Rights.{right_of}
 use Rattle.rights.specs.declared.right.Right.{Right}
 use Rattle.pad_core.specs.Machine.{Machine, nobody_present, now_of}
@@ -42,7 +43,7 @@ emptied m = record {
   held = [];
   presence = nobody_present m.presence.limit;
   clock = m.clock;
-  times = [];
+  made = nothing_made;
 }
 
 -- a pad that is listed for somebody, or the cell without it

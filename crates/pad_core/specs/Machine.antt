@@ -11,7 +11,7 @@ use Rattle.pad_model.specs.declared.refusal.Refusal.{Refusal}
 use Rattle.pad_model.specs.declared.refusal.Refusal.TheVariants.{NoSession, NotPeer, NoPad, BadName, NotJoined, Joined}
 use Rattle.pad_model.specs.declared.refusal.Refusal.TheVariants.{Denied}
 use Rattle.pad_model.specs.declared.limits.TheConstants.{MAX_REPLICA}
-use Rattle.op_log.specs.Times.{Times}
+use Rattle.op_log.specs.Made.{Made, Makings}
 use Rattle.rights.specs.Rights.{Rights, can_have, may}
 use Rattle.rights.specs.declared.right.Right.TheVariants as right
 use Rattle.presence.specs.Presence.{Presence, is_joined_by, joined}
@@ -21,7 +21,7 @@ use Rattle.named_revisions.specs.declared.named_revision.NamedRevision.{NamedRev
 use Rattle.pad_core.specs.Grants.{grant, hand, read_rights}
 use Rattle.pad_core.specs.Marks.{mark, read_marks}
 use Rattle.pad_core.specs.Notes.{comment, resolve}
-use Rattle.pad_core.specs.Presence.{join, leave, put_caret, read_who}
+use Rattle.pad_core.specs.Presence.{join, leave, put_caret, read_who, rejoin}
 use Rattle.pad_core.specs.Reads.{read_birth, read_changes, read_comments, read_entries, read_revs, read_revs_at, read_runs, read_text, read_times}
 use Rattle.pad_core.specs.Times.{time_now, timed}
 use Rattle.pad_core.specs.declared.admit.Need.{Need}
@@ -35,8 +35,8 @@ use Rattle.pad_core.specs.declared.event.Claim.{Claim}
 use Rattle.pad_core.specs.declared.event.Claim.TheVariants.{Created, Exists, Other}
 
 -- a pad: its name and rights, if it has them, its server's replica number, its operations in the order of delivery,
--- those that wait for others, who is present, the clock that it was told last, and the time of each operation, both in
--- milliseconds since 1970
+-- those that wait for others, who is present, the clock that it was told last, and of each operation the time, both in
+-- milliseconds since 1970, and the visit in which it was made, or 0
 pub record Machine : Type 0 where
   pub owned : Option Owned
   pub replica : ℕ
@@ -44,7 +44,7 @@ pub record Machine : Type 0 where
   pub held : List Op
   pub presence : Presence
   pub clock : ℕ
-  pub times : List ℕ
+  pub made : Made
 
 -- the clock goes on, or back
 abbrev pub tick : ℕ → Machine → Machine
@@ -57,6 +57,7 @@ now_of m = length m.log
 -- what an act requires of whoever does it
 abbrev pub need_of : Act → Need
 need_of act.Join = NewVisit
+need_of (act.Rejoin old) = NewVisit
 need_of act.Leave = AnyVisit
 need_of (act.Insert rev at text) = Visit right.Write
 need_of (act.Delete rev at len) = Visit right.Write
@@ -143,8 +144,8 @@ session_refusal who act =
 pub data Outcome : Type 0 where
   -- nothing changes
   reads : Result PadReply Refusal → Outcome
-  -- the log alone
-  writes : Result PadReply Refusal × List Op → Outcome
+  -- the log alone, by a visit
+  writes : ℕ → Result PadReply Refusal × List Op → Outcome
   -- who is present
   visits : Result PadReply Refusal × Presence → Outcome
   -- the rights
@@ -154,11 +155,11 @@ pub data Outcome : Type 0 where
   -- the log and what is held
   delivers : Result PadReply Refusal × (List Op × List Op) → Outcome
 
--- an act that changes the log, and the times with it
-abbrev pub on_log : Machine → Result PadReply Refusal × List Op → Result PadReply Refusal × Machine
-on_log m done = (
+-- an act of a visit that changes the log, and with it what is known of when and where operations were made
+abbrev pub on_log : Machine → ℕ → Result PadReply Refusal × List Op → Result PadReply Refusal × Machine
+on_log m visit done = (
   done.0,
-  record m { log = done.1; times = timed m.clock m.log done.1 m.times },
+  record m { log = done.1; made = timed m.clock visit m.log done.1 m.made },
 )
 
 -- an act that changes who is present
@@ -186,7 +187,7 @@ abbrev pub on_marks : Option Owned → Machine → Result PadReply Refusal × Li
     → Result PadReply Refusal × Machine
 on_marks owned m done = (done.0, record m { owned = with_marks owned done.1 })
 
--- an act that changes the log, and the times with it, and what is held
+-- an act that changes the log, and with it what is known of when operations were heard of, and what is held
 abbrev pub on_delivery : Machine → Result PadReply Refusal × (List Op × List Op)
     → Result PadReply Refusal × Machine
 on_delivery m done = (
@@ -194,14 +195,14 @@ on_delivery m done = (
   record m {
     log = done.1.0;
     held = done.1.1;
-    times = timed m.clock m.log done.1.0 m.times;
+    made = timed m.clock 0 m.log done.1.0 m.made;
   },
 )
 
 -- the answer and the pad after an act on a pad of this name and these rights, by what the act comes to
 abbrev pub applied : Option Owned → Outcome → Machine → Result PadReply Refusal × Machine
 applied owned (reads answer) m = (answer, m)
-applied owned (writes done) m = on_log m done
+applied owned (writes visit done) m = on_log m visit done
 applied owned (visits done) m = on_presence m done
 applied owned (grants done) m = on_rights owned m done
 applied owned (names done) m = on_marks owned m done
@@ -210,16 +211,17 @@ applied owned (delivers done) m = on_delivery m done
 -- what each act of an author comes to
 abbrev pub author_outcome : Owned → List ℕ → ℕ → Act → Machine → Outcome
 author_outcome owned name visit act.Join m = visits (join (now_of m) name m.presence)
+author_outcome owned name visit (act.Rejoin old) m = visits (rejoin old name m.log m.made m.presence)
 author_outcome owned name visit act.Leave m = visits (leave (now_of m) visit m.presence)
-author_outcome owned name visit (act.Insert rev at text) m = writes
+author_outcome owned name visit (act.Insert rev at text) m = writes visit
     (insert m.replica name rev at text m.log)
-author_outcome owned name visit (act.Delete rev at len) m = writes
+author_outcome owned name visit (act.Delete rev at len) m = writes visit
     (delete m.replica name rev at len m.log)
-author_outcome owned name visit (act.Edit rev changes) m = writes
+author_outcome owned name visit (act.Edit rev changes) m = writes visit
     (edit m.replica name rev changes m.log)
-author_outcome owned name visit (act.Comment rev at len text) m = writes
+author_outcome owned name visit (act.Comment rev at len text) m = writes visit
     (comment m.replica name rev at len text m.log)
-author_outcome owned name visit (act.Resolve resolved) m = writes
+author_outcome owned name visit (act.Resolve resolved) m = writes visit
     (resolve m.replica name resolved m.log)
 author_outcome owned name visit (act.Text rev) m = reads (read_text rev m.log)
 author_outcome owned name visit (act.Runs rev) m = reads (read_runs rev m.log)
@@ -227,11 +229,12 @@ author_outcome owned name visit (act.Comments rev) m = reads (read_comments rev 
 author_outcome owned name visit (act.Changes rev to wait) m = reads (read_changes rev to wait m.log)
 author_outcome owned name visit act.Revs m = reads (read_revs m.log)
 author_outcome owned name visit (act.Entries from count timed) m = reads
-    (read_entries from count timed m.log m.times)
+    (read_entries from count timed m.log m.made.times)
 author_outcome owned name visit (act.Times from step count) m = reads
-    (read_times from step count m.log m.times)
-author_outcome owned name visit (act.RevsAt moments) m = reads (read_revs_at moments m.log m.times)
-author_outcome owned name visit (act.Birth rev at) m = reads (read_birth rev at m.log m.times)
+    (read_times from step count m.log m.made.times)
+author_outcome owned name visit (act.RevsAt moments) m = reads
+    (read_revs_at moments m.log m.made.times)
+author_outcome owned name visit (act.Birth rev at) m = reads (read_birth rev at m.log m.made.times)
 author_outcome owned name visit (act.Caret rev at) m = visits
     (put_caret rev at visit m.log m.presence)
 author_outcome owned name visit act.Who m = reads (read_who m.replica m.log m.presence)
@@ -243,7 +246,7 @@ author_outcome owned name visit act.Rights m = reads (read_rights (now_of m) own
 author_outcome owned name visit (act.Mark rev text) m = names (mark (now_of m) (record {
   rev = rev;
   author = name;
-  at = time_now m.clock m.times;
+  at = time_now m.clock m.made.times;
   text = text;
 }) owned.marks)
 author_outcome owned name visit act.Marks m = reads (read_marks (now_of m) owned.marks)
@@ -297,7 +300,7 @@ name_of (Some owned) = Some owned.name
 
 -- nobody is present or ever was, and this many may be present at once
 abbrev pub nobody_present : ℕ → Presence
-nobody_present limit = record { limit = limit; given = 0; present = [] }
+nobody_present limit = record { limit = limit; given = 0; present = []; authors = [] }
 
 -- what a claim gives a pad: a name and an owner; nobody else has a right, and no revision a name
 abbrev pub new_owned : List ℕ → List ℕ → Owned
@@ -341,13 +344,14 @@ pub record IsPad (owned : Option Owned) (replica : ℕ) (held : List Op) (presen
   pub replica_high : replica ≤ MAX_REPLICA
   pub waiting : AllByRecursion (λ op. IsTrue (is_checked op)) held
 
--- a pad has a time for each operation, and room for as many
-pub record IsTimed (log : List Op) (times : Times) : Type 0 where
-  pub each : length times.times ≡ length log
-  pub roomy : length log ≤ times.room
+-- a pad knows of each operation when and in which visit it was made, and has room for as many
+pub record IsTimed (log : List Op) (made : Makings) : Type 0 where
+  pub each : length made.made.times ≡ length log
+  pub paired : length made.made.visits ≡ length log
+  pub roomy : length log ≤ made.room
 
 -- what a pad is made of fits together
 pub record IsWhole (owned : Option Owned) (replica : ℕ) (held : List Op) (presence : Presence)
-    (log : List Op) (times : Times) : Type 0 where
+    (log : List Op) (made : Makings) : Type 0 where
   pub kept : IsPad owned replica held presence
-  pub timed : IsTimed log times
+  pub timed : IsTimed log made

@@ -1,17 +1,20 @@
 -- Who is present on a pad, and where their carets are.
-use Rattle.std.specs.Prelude.{ℕ, ◌+◌, nat_lt, if◌then◌else◌, List, length, map, Option, Some, None, Result, Ok, Err}
+use Rattle.std.specs.Prelude.{ℕ, ◌+◌, nat_lt, if◌then◌else◌, List, length, map, Option, Some, None, option_map, Result, Ok, Err}
+use Rattle.std.specs.List.{last_or}
 use Rattle.pad_model.specs.Operation.{characters_in}
 use Rattle.pad_model.specs.Visible.{visible, caret_of}
+use Rattle.op_log.specs.Made.{Made}
+use Rattle.op_log.specs.Makers.{made_in}
 use Rattle.pad_model.specs.declared.op.Op.{Op}
 use Rattle.pad_model.specs.declared.refusal.Refusal.{Refusal}
 use Rattle.pad_model.specs.declared.refusal.Refusal.TheVariants.{NoRevision, OutOfRange}
-use Rattle.presence.specs.Presence.{Presence, is_joined_by, join_refusal, joined, left, with_caret}
+use Rattle.presence.specs.Presence.{Presence, is_joined_by, join_refusal, joined, left, rejoin_refusal, with_caret, without}
 use Rattle.presence.specs.declared.presence.Visit.{Visit}
 use Rattle.pad_core.specs.Counts.{characters_at}
 use Rattle.pad_core.specs.Edits.{before_place}
 use Rattle.pad_core.specs.declared.reply.Present.{Present}
 use Rattle.pad_core.specs.declared.reply.PadReply.{PadReply}
-use Rattle.pad_core.specs.declared.reply.PadReply.TheVariants.{Joined, Done, Who}
+use Rattle.pad_core.specs.declared.reply.PadReply.TheVariants.{Joined, Rejoined, Done, Who}
 
 -- one more visit
 abbrev pub join : ℕ → List ℕ → Presence → Result PadReply Refusal × Presence
@@ -20,6 +23,19 @@ join now author p = unless_refused (join_refusal p)
     unless_refused : Option Refusal → Result PadReply Refusal × Presence
     unless_refused (Some refusal) = (Err refusal, p)
     unless_refused None = (Ok (Joined now (p.given + 1)), joined author p)
+
+-- one more visit instead of an old one of the author, which ends if it has not ended yet: the answer tells how many
+-- operations the old one made, and the last of them
+abbrev pub rejoin : ℕ → List ℕ → List Op → Made → Presence → Result PadReply Refusal × Presence
+rejoin old author log made p = unless_refused (rejoin_refusal old author p)
+  where
+    unless_refused : Option Refusal → Result PadReply Refusal × Presence
+    unless_refused (Some refusal) = (Err refusal, p)
+    unless_refused None =
+        let ops = made_in old log made.visits in (
+          Ok (Rejoined (length log) (p.given + 1) (length ops) (option_map (λ op. op.name) (last_or None ops))),
+          joined author (without old p),
+        )
 
 -- the end of a visit
 abbrev pub leave : ℕ → ℕ → Presence → Result PadReply Refusal × Presence

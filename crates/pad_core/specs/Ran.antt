@@ -29,7 +29,7 @@ IsCutShort pad who this old new =
     × (new ≡ record old {
       log = new.log;
       held = new.held;
-      times = timed old.clock old.log new.log old.times;
+      made = timed old.clock 0 old.log new.log old.made;
     })
 
 -- whether an act may take memory: the end of a visit, a caret and the length of a pad take none

@@ -1,5 +1,5 @@
 -- How a pad is restored after a restart, from what was done on it before.
-use Rattle.std.specs.Prelude.{ℕ, ◌+◌, ◌==◌, Bool, not, ◌&&◌, if◌then◌else◌, List, [], ◌∷◌, ◌++◌, length, Option, Some, None}
+use Rattle.std.specs.Prelude.{ℕ, ◌+◌, ◌==◌, Bool, true, false, not, ◌&&◌, if◌then◌else◌, List, [], ◌∷◌, ◌++◌, length, Option, Some, None}
 use Rattle.std.specs.Prelude.{Result, Ok, Err}
 use Rattle.pad_model.specs.Checked.{is_checked, is_name}
 use Rattle.pad_model.specs.Seen.{count_in}
@@ -11,7 +11,7 @@ use Rattle.pad_model.specs.declared.refusal.Refusal.TheVariants.{NoPad, PadExist
 use Rattle.rights.specs.Rights.{can_have, grant, hand}
 use Rattle.rights.specs.declared.grantee.Grantee.{Grantee}
 use Rattle.rights.specs.declared.right.Right.{Right}
-use Rattle.presence.specs.Presence.{Presence, joined, left, spent_refusal}
+use Rattle.presence.specs.Presence.{Presence, counted, spent_refusal}
 use Rattle.pad_core.specs.Counts.{vector_of}
 use Rattle.pad_core.specs.Delivered.{delivery_refusal}
 use Rattle.pad_core.specs.Machine.{Machine, claim}
@@ -20,21 +20,22 @@ use Rattle.pad_core.specs.Marks.{named}
 use Rattle.pad_core.specs.Times.{timed}
 use Rattle.pad_core.specs.declared.owned.Owned.{Owned}
 
--- the visit that was given last has ended
-abbrev pub ended : Presence → Presence
-ended p = record p { present = left p.given p.present }
+-- the author of a visit, if it is known what was made in it
+abbrev pub author_if : Bool → List ℕ → Option (List ℕ)
+author_if true author = Some author
+author_if false author = None
 
 -- one more visit, which has ended: so it is refused only if no further number is given, however many may be present
-abbrev pub visited : List ℕ → Presence → Result (Unit {0}) Refusal × Presence
+abbrev pub visited : Option (List ℕ) → Presence → Result (Unit {0}) Refusal × Presence
 visited author p = unless_refused (spent_refusal p)
   where
     unless_refused : Option Refusal → Result (Unit {0}) Refusal × Presence
     unless_refused (Some refusal) = (Err refusal, p)
-    unless_refused None = (Ok tt, ended (joined author p))
+    unless_refused None = (Ok tt, counted author p)
 
--- a pad without a name is claimed, and its owner's visit has ended
-abbrev pub restore_claim : List ℕ → List ℕ → Machine → Result (Unit {0}) Refusal × Machine
-restore_claim name owner m = at m.owned
+-- a pad without a name is claimed, and its owner's visit has ended: if visits are recorded from then on, it is known
+abbrev pub restore_claim : List ℕ → List ℕ → Bool → Machine → Result (Unit {0}) Refusal × Machine
+restore_claim name owner visits m = at m.owned
   where
     at : Option Owned → Result (Unit {0}) Refusal × Machine
     at (Some owned) = (Err PadExists, m)
@@ -44,7 +45,7 @@ restore_claim name owner m = at m.owned
           Ok tt,
           record m {
             owned = (claim name owner m).1.owned;
-            presence = ended (claim name owner m).1.presence;
+            presence = counted (author_if visits owner) m.presence;
           },
         )
         else (Err BadName, m)
@@ -101,14 +102,14 @@ restore_mark this m = at m.owned
         else (let done = marked_again (length m.log) this (Some owned) in
         (done.0, record m { owned = done.1 }))
 
--- a visit is counted, no matter whose it was
-abbrev pub restore_visit : Machine → Result (Unit {0}) Refusal × Machine
-restore_visit m = at m.owned
+-- a visit is counted, whose author is known or not
+abbrev pub restore_visit : Option (List ℕ) → Machine → Result (Unit {0}) Refusal × Machine
+restore_visit author m = at m.owned
   where
     at : Option Owned → Result (Unit {0}) Refusal × Machine
     at None = (Err NoPad, m)
     at (Some owned) =
-        let done = visited owned.rights.owner m.presence in
+        let done = visited author m.presence in
         (done.0, record m { presence = done.1 })
 
 -- whether a name is the next of its origin
@@ -131,12 +132,12 @@ delivered_again op log = unless_refused (restore_refusal op log)
     unless_refused (Some refusal) = (Err refusal, log)
     unless_refused None = (Ok tt, log ++ op ∷ [])
 
--- an operation is delivered again to a pad, with the time that it had
-abbrev pub restore_operation : Op → ℕ → Machine → Result (Unit {0}) Refusal × Machine
-restore_operation op at m = let done = delivered_again op m.log in
-    (done.0, record m { log = done.1; times = timed at m.log done.1 m.times })
+-- an operation is delivered again to a pad, with the time and the visit that it had
+abbrev pub restore_operation : Op → ℕ → ℕ → Machine → Result (Unit {0}) Refusal × Machine
+restore_operation op at visit m = let done = delivered_again op m.log in
+    (done.0, record m { log = done.1; made = timed at visit m.log done.1 m.made })
 
--- the pad after a restart: the same name, rights, operations with their times, and count of visits. Nobody is present,
--- nothing is held, and no clock was told
+-- the pad after a restart: the same name, rights, operations with their times and visits, and authors of visits. Nobody
+-- is present, nothing is held, and no clock was told
 abbrev pub restarted : Machine → Machine
 restarted m = record m { held = []; presence = record m.presence { present = [] }; clock = 0 }

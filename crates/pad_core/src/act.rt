@@ -19,6 +19,10 @@ pub enum Change {
 pub enum Act {
     /// Joins the pad with a new visit.
     Join,
+    /// Joins the pad with a new visit instead of an old one of the author, which ends if it has not ended yet.
+    Rejoin {
+        old: u64,
+    },
     /// Ends the visit.
     Leave,
     /// Inserts a text at a place of a revision.
@@ -151,6 +155,7 @@ impl Clone for Act {
     fn clone(&self) -> Result<Act, AllocError> {
         Ok(match self {
             Act::Join => Act::Join,
+            Act::Rejoin { old } => Act::Rejoin { old: *old },
             Act::Leave => Act::Leave,
             Act::Insert { rev, at, text } => Act::Insert {
                 rev: *rev,

@@ -27,7 +27,7 @@ pub fn need_of(act: &Act) -> Need
     ensures { result ≡ machine.need_of act.now }
 {
     match act {
-        Act::Join => Need::NewVisit,
+        Act::Join | Act::Rejoin { .. } => Need::NewVisit,
         Act::Leave => Need::AnyVisit,
         Act::Insert { .. } | Act::Delete { .. } | Act::Edit { .. } | Act::Mark { .. } =>
             Need::Visit(Right::Write),

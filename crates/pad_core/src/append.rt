@@ -9,7 +9,7 @@ ghost use Rattle.pad_core.specs.Counts.{vector_of};
 ghost use Rattle.pad_core.specs.Delivered.{delivery_refusal};
 
 use crate::ledger::Ledger;
-use op_log::TimeList;
+use op_log::MadeList;
 use pad_model::{Op, Refusal, Sequence};
 use std::alloc::Global;
 
@@ -17,21 +17,21 @@ use std::alloc::Global;
 pub fn append<S: Sequence>(
     alloc: Global,
     ledger: &mut Ledger<S>,
-    times: &mut TimeList,
+    made: &mut MadeList,
     op: Op,
 ) -> Result<u64, Refusal>
     requires checked { IsTrue (is_checked op) }
     requires next { op.name.number ≡ count_in (vector_of ledger.old) op.name.origin + 1 }
     requires allowed { delivery_refusal op ledger.old ≡ None }
-    requires room { length ledger.old ≤ times.old.room }
+    requires room { length ledger.old ≤ made.old.room }
     ensures answer { Answers ledger.old (
       Ok (hidden_by (erased_by op) (characters_in ledger.old)),
       ledger.old ++ op ∷ [],
     ) result ledger.new }
-    ensures times { times.new.times ≡ times.old.times }
+    ensures made { made.new.made ≡ made.old.made }
     ensures grown { length ledger.old ≤ length ledger.new }
-    ensures room { length ledger.new ≤ times.new.room }
+    ensures room { length ledger.new ≤ made.new.room }
 {
-    times.reserve(ledger.len() + 1)?;
+    made.reserve(ledger.len() + 1)?;
     ledger.append(alloc, op)
 }

@@ -18,7 +18,7 @@ use crate::ledger::Ledger;
 use crate::make::{make_insertion, make_parts};
 use crate::reply::PadReply;
 use crate::writer::{Passage, Writer};
-use op_log::TimeList;
+use op_log::MadeList;
 use pad_model::{Items, MAX_PARTS, MAX_TEXT, Op, OpName, Part, Refusal, Sequence, Text};
 use std::alloc::Global;
 
@@ -33,7 +33,7 @@ pub struct Edited {
 pub fn insert<S: Sequence>(
     alloc: Global,
     ledger: &mut Ledger<S>,
-    times: &mut TimeList,
+    made: &mut MadeList,
     writer: Writer<'_>,
     rev: u64,
     at: u64,
@@ -41,18 +41,18 @@ pub fn insert<S: Sequence>(
 ) -> Result<PadReply, Refusal>
     requires replica { 1 ≤ writer.replica }
     requires author { IsTrue (is_name writer.author.now) }
-    requires room { length ledger.old ≤ times.old.room }
+    requires room { length ledger.old ≤ made.old.room }
     ensures answer { Answers ledger.old (edits.insert writer.entry.replica writer.entry.author.now rev at
         text.now ledger.old) result ledger.new }
-    ensures times { times.new.times ≡ times.old.times }
+    ensures made { made.new.made ≡ made.old.made }
     ensures grown { length ledger.old ≤ length ledger.new }
-    ensures room { length ledger.new ≤ times.new.room }
+    ensures room { length ledger.new ≤ made.new.room }
 {
     if let Some(refusal) = refuse_insert(ledger, rev, at, text) {
         return Err(refusal);
     }
     let parts = make_insertion(alloc, ledger, writer.replica, rev, at, text)?;
-    let edit = append_parts(alloc, ledger, times, writer, parts)?;
+    let edit = append_parts(alloc, ledger, made, writer, parts)?;
     Ok(PadReply::Made {
         now: ledger.len(),
         name: edit.name,
@@ -63,43 +63,43 @@ pub fn insert<S: Sequence>(
 pub fn delete<S: Sequence>(
     alloc: Global,
     ledger: &mut Ledger<S>,
-    times: &mut TimeList,
+    made: &mut MadeList,
     writer: Writer<'_>,
     passage: Passage,
 ) -> Result<PadReply, Refusal>
     requires replica { 1 ≤ writer.replica }
     requires author { IsTrue (is_name writer.author.now) }
-    requires room { length ledger.old ≤ times.old.room }
+    requires room { length ledger.old ≤ made.old.room }
     ensures answer { Answers ledger.old (edits.delete writer.entry.replica writer.entry.author.now passage.rev
         passage.at passage.len ledger.old) result ledger.new }
-    ensures times { times.new.times ≡ times.old.times }
+    ensures made { made.new.made ≡ made.old.made }
     ensures grown { length ledger.old ≤ length ledger.new }
-    ensures room { length ledger.new ≤ times.new.room }
+    ensures room { length ledger.new ≤ made.new.room }
 {
     let Passage { rev, at, len } = passage;
     let changes = [Change::Delete { at, len }];
-    edit(alloc, ledger, times, writer, rev, changes.as_slice())
+    edit(alloc, ledger, made, writer, rev, changes.as_slice())
 }
 
 /// Makes several changes of a revision as one operation.
 pub fn edit<S: Sequence>(
     alloc: Global,
     ledger: &mut Ledger<S>,
-    times: &mut TimeList,
+    made: &mut MadeList,
     writer: Writer<'_>,
     rev: u64,
     changes: &[Change],
 ) -> Result<PadReply, Refusal>
     requires replica { 1 ≤ writer.replica }
     requires author { IsTrue (is_name writer.author.now) }
-    requires room { length ledger.old ≤ times.old.room }
+    requires room { length ledger.old ≤ made.old.room }
     ensures answer { Answers ledger.old (edits.edit writer.entry.replica writer.entry.author.now rev
         changes.now ledger.old) result ledger.new }
-    ensures times { times.new.times ≡ times.old.times }
+    ensures made { made.new.made ≡ made.old.made }
     ensures grown { length ledger.old ≤ length ledger.new }
-    ensures room { length ledger.new ≤ times.new.room }
+    ensures room { length ledger.new ≤ made.new.room }
 {
-    let edit = make_edit(alloc, ledger, times, writer, rev, changes)?;
+    let edit = make_edit(alloc, ledger, made, writer, rev, changes)?;
     Ok(PadReply::Changed {
         now: ledger.len(),
         name: edit.name,
@@ -111,32 +111,32 @@ pub fn edit<S: Sequence>(
 fn make_edit<S: Sequence>(
     alloc: Global,
     ledger: &mut Ledger<S>,
-    times: &mut TimeList,
+    made: &mut MadeList,
     writer: Writer<'_>,
     rev: u64,
     changes: &[Change],
 ) -> Result<Edited, Refusal>
     requires replica { 1 ≤ writer.replica }
     requires author { IsTrue (is_name writer.author.now) }
-    requires room { length ledger.old ≤ times.old.room }
+    requires room { length ledger.old ≤ made.old.room }
     ensures answer { Answers ledger.old (edited writer.entry.replica writer.entry.author.now rev
         changes.now ledger.old) result ledger.new }
-    ensures times { times.new.times ≡ times.old.times }
+    ensures made { made.new.made ≡ made.old.made }
     ensures grown { length ledger.old ≤ length ledger.new }
-    ensures room { length ledger.new ≤ times.new.room }
+    ensures room { length ledger.new ≤ made.new.room }
 {
     if let Some(refusal) = refuse_edit(ledger, rev, changes) {
         return Err(refusal);
     }
     let parts = make_parts(alloc, ledger, writer.replica, rev, changes)?;
-    append_parts(alloc, ledger, times, writer, parts)
+    append_parts(alloc, ledger, made, writer, parts)
 }
 
 /// Delivers the next operation of an author, to which no refusal applies.
 fn append_parts<S: Sequence>(
     alloc: Global,
     ledger: &mut Ledger<S>,
-    times: &mut TimeList,
+    made: &mut MadeList,
     writer: Writer<'_>,
     parts: Items<Part>,
 ) -> Result<Edited, Refusal>
@@ -144,16 +144,16 @@ fn append_parts<S: Sequence>(
         (op_of writer.replica writer.author.now parts ledger.old)) }
     requires allowed { delivery_refusal (op_of writer.replica writer.author.now parts ledger.old)
         ledger.old ≡ None }
-    requires room { length ledger.old ≤ times.old.room }
+    requires room { length ledger.old ≤ made.old.room }
     ensures answer { Answers ledger.old (appended writer.entry.replica writer.entry.author.now parts
         ledger.old) result ledger.new }
-    ensures times { times.new.times ≡ times.old.times }
+    ensures made { made.new.made ≡ made.old.made }
     ensures grown { length ledger.old ≤ length ledger.new }
-    ensures room { length ledger.new ≤ times.new.room }
+    ensures room { length ledger.new ≤ made.new.room }
 {
     let op = make_op(ledger, writer, parts)?;
     let name = op.name;
-    let hidden = append(alloc, ledger, times, op)?;
+    let hidden = append(alloc, ledger, made, op)?;
     Ok(Edited { name, hidden })
 }
 

@@ -13,7 +13,7 @@ use crate::edit::make_op;
 use crate::ledger::Ledger;
 use crate::reply::PadReply;
 use crate::writer::{Passage, Writer};
-use op_log::TimeList;
+use op_log::MadeList;
 use pad_model::{
     Items, MAX_COMMENT, MAX_COMMENTS, MAX_OPERATIONS, OpName, Part, Refusal, Sequence, Stamp, Text,
 };
@@ -23,43 +23,43 @@ use std::alloc::Global;
 pub fn comment<S: Sequence>(
     alloc: Global,
     ledger: &mut Ledger<S>,
-    times: &mut TimeList,
+    made: &mut MadeList,
     writer: Writer<'_>,
     passage: Passage,
     text: &Text,
 ) -> Result<PadReply, Refusal>
     requires replica { 1 ≤ writer.replica }
     requires author { IsTrue (is_name writer.author.now) }
-    requires room { length ledger.old ≤ times.old.room }
+    requires room { length ledger.old ≤ made.old.room }
     ensures answer { Answers ledger.old (notes.comment writer.entry.replica writer.entry.author.now passage.rev
         passage.at passage.len text.now ledger.old) result ledger.new }
-    ensures times { times.new.times ≡ times.old.times }
+    ensures made { made.new.made ≡ made.old.made }
     ensures grown { length ledger.old ≤ length ledger.new }
-    ensures room { length ledger.new ≤ times.new.room }
+    ensures room { length ledger.new ≤ made.new.room }
 {
     if let Some(refusal) = refuse_comment(ledger, passage, text) {
         return Err(refusal);
     }
     let part = make_comment(ledger, passage, text)?;
-    note(alloc, ledger, times, writer, part)
+    note(alloc, ledger, made, writer, part)
 }
 
 /// Resolves a comment.
 pub fn resolve<S: Sequence>(
     alloc: Global,
     ledger: &mut Ledger<S>,
-    times: &mut TimeList,
+    made: &mut MadeList,
     writer: Writer<'_>,
     comment: OpName,
 ) -> Result<PadReply, Refusal>
     requires replica { 1 ≤ writer.replica }
     requires author { IsTrue (is_name writer.author.now) }
-    requires room { length ledger.old ≤ times.old.room }
+    requires room { length ledger.old ≤ made.old.room }
     ensures answer { Answers ledger.old (notes.resolve writer.entry.replica writer.entry.author.now comment
         ledger.old) result ledger.new }
-    ensures times { times.new.times ≡ times.old.times }
+    ensures made { made.new.made ≡ made.old.made }
     ensures grown { length ledger.old ≤ length ledger.new }
-    ensures room { length ledger.new ≤ times.new.room }
+    ensures room { length ledger.new ≤ made.new.room }
 {
     if !ledger.has_comment(comment) {
         return Err(Refusal::NoComment);
@@ -67,14 +67,14 @@ pub fn resolve<S: Sequence>(
     if MAX_OPERATIONS <= ledger.len() {
         return Err(Refusal::LogFull);
     }
-    note(alloc, ledger, times, writer, Part::Resolve { comment })
+    note(alloc, ledger, made, writer, Part::Resolve { comment })
 }
 
 /// Makes the operation of one comment or resolution and delivers it.
 fn note<S: Sequence>(
     alloc: Global,
     ledger: &mut Ledger<S>,
-    times: &mut TimeList,
+    made: &mut MadeList,
     writer: Writer<'_>,
     part: Part,
 ) -> Result<PadReply, Refusal>
@@ -82,17 +82,17 @@ fn note<S: Sequence>(
         (op_of writer.replica writer.author.now (part ∷ []) ledger.old)) }
     requires allowed { delivery_refusal
         (op_of writer.replica writer.author.now (part ∷ []) ledger.old) ledger.old ≡ None }
-    requires room { length ledger.old ≤ times.old.room }
+    requires room { length ledger.old ≤ made.old.room }
     ensures answer { Answers ledger.old (noted None writer.entry.replica writer.entry.author.now
         (part ∷ []) ledger.old) result ledger.new }
-    ensures times { times.new.times ≡ times.old.times }
+    ensures made { made.new.made ≡ made.old.made }
     ensures grown { length ledger.old ≤ length ledger.new }
-    ensures room { length ledger.new ≤ times.new.room }
+    ensures room { length ledger.new ≤ made.new.room }
 {
     let parts = Items::of_one(alloc, part)?;
     let op = make_op(ledger, writer, parts)?;
     let name = op.name;
-    append(alloc, ledger, times, op)?;
+    append(alloc, ledger, made, op)?;
     Ok(PadReply::Made {
         now: ledger.len(),
         name,

@@ -1,6 +1,7 @@
 //! One pad.
-ghost use Rattle.std.specs.Prelude.{◌≡◌, ◌⊎◌, ℕ, ◌+◌, ◌≤◌, List, [], length, drop, IsTrue, IfOk, IfSome, OnOk, Some, None, Err, MatchResult, false, is_some, option_map, unwrap_or};
+ghost use Rattle.std.specs.Prelude.{◌≡◌, ◌⊎◌, ℕ, ◌+◌, ◌≤◌, List, [], length, drop, IsTrue, IfOk, IfSome, OnOk, Some, None, Err, MatchResult, false, is_some, option_copied, option_map, unwrap_or};
 ghost use Rattle.pad_model.specs.Answers.{Answers};
+ghost use Rattle.op_log.specs.Made.{last_visit, nothing_made};
 ghost use Rattle.op_log.specs.Times.{IsRising};
 ghost use Rattle.pad_model.specs.Checked.{is_name};
 ghost use Rattle.pad_model.specs.declared.limits.TheConstants.{MAX_REPLICA};
@@ -35,11 +36,11 @@ use crate::reads::{
 };
 use crate::reply::{Listed, PadReply};
 use crate::restart::{deliver_again, grant_again, hand_again, mark_again, own_again, visit_again};
-use crate::visits::{depart, join, leave, put_caret, read_who};
+use crate::visits::{depart, join, leave, put_caret, read_who, rejoin};
 use crate::writer::{Passage, Writer};
 use holdback::Hold;
 use named_revisions::NamedRevision;
-use op_log::TimeList;
+use op_log::MadeList;
 use pad_model::{Items, Name, Op, Refusal, Sequence, Version, Who};
 use presence::PresenceBook;
 use rights::{Grantee, Right};
@@ -47,7 +48,7 @@ use std::alloc::Global;
 use std::marker::Model;
 
 /// A pad: its name and rights once it is claimed, its operations and those that wait for others, who is present, and when
-/// each operation was delivered here.
+/// and in which visit each operation was made here.
 #[derive(Drop)]
 pub struct Pad<S: Sequence> {
     owned: Option<Owned>,
@@ -57,7 +58,7 @@ pub struct Pad<S: Sequence> {
     presence: PresenceBook,
     /// The last time that was reported to it, in milliseconds since 1970.
     clock: u64,
-    times: TimeList,
+    made: MadeList,
 }
 
 impl<S: Sequence> Model for Pad<S> {
@@ -72,10 +73,10 @@ impl<S: Sequence> Model for Pad<S> {
       held = p.held;
       presence = p.presence;
       clock = p.clock;
-      times = p.times.times;
+      made = p.made.made;
     } };
 
-    ghost invariant = { λ p. IsWhole p.owned p.replica p.held p.presence p.ledger p.times };
+    ghost invariant = { λ p. IsWhole p.owned p.replica p.held p.presence p.ledger p.made };
 }
 
 impl<S: Sequence> Pad<S> {
@@ -90,7 +91,7 @@ impl<S: Sequence> Pad<S> {
               held = [];
               presence = nobody_present present;
               clock = 0;
-              times = [];
+              made = nothing_made;
             }) (λ e. e ≡ Refusal.Memory) }
     {
         let ledger = Ledger::new(alloc)?;
@@ -101,7 +102,7 @@ impl<S: Sequence> Pad<S> {
             held: Hold::new(alloc),
             presence: PresenceBook::new(alloc, present),
             clock: 0,
-            times: TimeList::new(alloc),
+            made: MadeList::new(alloc),
         })
     }
 
@@ -121,10 +122,10 @@ impl<S: Sequence> Pad<S> {
         ensures value { result ≡ length self.now.log }
         ensures delivered { IsDelivered self.now.log }
         ensures kept { IsPad self.now.owned self.now.replica self.now.held self.now.presence }
-        ensures timed { length self.now.times ≡ length self.now.log }
-        ensures rising { IsRising self.now.times }
+        ensures timed { length self.now.made.times ≡ length self.now.log }
+        ensures rising { IsRising self.now.made.times }
     {
-        let _times = self.times.len();
+        let _made = self.made.len();
         self.ledger.len()
     }
 
@@ -138,9 +139,16 @@ impl<S: Sequence> Pad<S> {
 
     /// The time that an operation gets if it is delivered now.
     pub fn time_now(&self) -> u64
-        ensures { result ≡ times_spec.time_now self.now.clock self.now.times }
+        ensures { result ≡ times_spec.time_now self.now.clock self.now.made.times }
     {
-        self.clock.max(self.times.last())
+        self.clock.max(self.made.last())
+    }
+
+    /// The visit in which the last operation was made, or 0.
+    pub fn last_visit(&self) -> u64
+        ensures { result ≡ last_visit self.now.made }
+    {
+        self.made.last_visit()
     }
 
     /// The operations that were delivered.
@@ -235,9 +243,17 @@ impl<S: Sequence> Pad<S> {
         self.ledger.since(alloc, revision)
     }
 
-    /// Claims the pad as it was claimed before a restart. The owner's visit has ended.
-    pub fn restore_claim(&mut self, alloc: Global, name: &Name, owner: &Name) -> Result<(), Refusal>
-        ensures { Answers self.old (restart_spec.restore_claim name.now owner.now self.old) result self.new }
+    /// Claims the pad as it was claimed before a restart. The owner's visit has ended. `visits` tells whether the visit of
+    /// each operation is recorded from then on.
+    pub fn restore_claim(
+        &mut self,
+        alloc: Global,
+        name: &Name,
+        owner: &Name,
+        visits: bool,
+    ) -> Result<(), Refusal>
+        ensures { Answers self.old (restart_spec.restore_claim name.now owner.now visits self.old) result
+            self.new }
     {
         if self.owned.is_some() {
             return Err(Refusal::PadExists);
@@ -251,6 +267,7 @@ impl<S: Sequence> Pad<S> {
             &mut self.presence,
             name.as_str(),
             owner.as_str(),
+            visits,
         )
     }
 
@@ -293,23 +310,33 @@ impl<S: Sequence> Pad<S> {
         mark_again(&mut self.owned, self.ledger.len(), named)
     }
 
-    /// Counts a visit that began before a restart.
-    pub fn restore_visit(&mut self, alloc: Global) -> Result<(), Refusal>
-        ensures { Answers self.old (restart_spec.restore_visit self.old) result self.new }
+    /// Counts a visit that began before a restart. None: its author is not known.
+    pub fn restore_visit(&mut self, alloc: Global, author: Option<&Name>) -> Result<(), Refusal>
+        ensures { Answers self.old
+            (restart_spec.restore_visit (option_copied author.entry) self.old) result self.new }
     {
-        let Some(owned) = &self.owned else {
+        if self.owned.is_none() {
             return Err(Refusal::NoPad);
-        };
-        visit_again(alloc, &mut self.presence, owned.rights.owner())
+        }
+        match author {
+            Some(author) => visit_again(alloc, &mut self.presence, Some(author.as_str())),
+            None => visit_again(alloc, &mut self.presence, None),
+        }
     }
 
-    /// Delivers an operation that was delivered before a restart, at this time. It is refused with 400 if it exceeds a
+    /// Delivers an operation that was delivered before a restart, at this time and in this visit, or in none (0). It is refused with 400 if it exceeds a
     /// limit, and with 403 if it is not the next of its origin.
-    pub fn restore_operation(&mut self, alloc: Global, op: Op, at: u64) -> Result<(), Refusal>
-        ensures { Answers self.old (restart_spec.restore_operation op at self.old) result self.new }
+    pub fn restore_operation(
+        &mut self,
+        alloc: Global,
+        op: Op,
+        at: u64,
+        visit: u64,
+    ) -> Result<(), Refusal>
+        ensures { Answers self.old (restart_spec.restore_operation op at visit self.old) result self.new }
     {
-        let done = deliver_again(alloc, &mut self.ledger, &mut self.times, op);
-        self.times.fill(self.ledger.len(), at);
+        let done = deliver_again(alloc, &mut self.ledger, &mut self.made, op);
+        self.made.fill(self.ledger.len(), at, visit);
         done
     }
 
@@ -394,40 +421,41 @@ impl<S: Sequence> Pad<S> {
     {
         let visit = visit.unwrap_or(0);
         let ledger = &mut self.ledger;
-        let times = &mut self.times;
+        let made = &mut self.made;
         let writer = Writer {
             replica: self.replica,
             author: name,
         };
         match act {
             Act::Join => join(alloc, &mut self.presence, ledger.len(), name),
+            Act::Rejoin { old } => rejoin(alloc, ledger, made, &mut self.presence, *old, name),
             Act::Leave => leave(&mut self.presence, ledger.len(), visit),
             Act::Caret { rev, at } => put_caret(ledger, &mut self.presence, visit, *rev, *at),
             Act::Who => read_who(alloc, ledger, &self.presence, self.replica),
             Act::Insert { rev, at, text } => {
-                let reply = insert(alloc, ledger, times, writer, *rev, *at, text);
-                times.fill(ledger.len(), self.clock);
+                let reply = insert(alloc, ledger, made, writer, *rev, *at, text);
+                made.fill(ledger.len(), self.clock, visit);
                 reply
             }
             Act::Delete { rev, at, len } => {
-                let reply = delete(alloc, ledger, times, writer, Passage::new(*rev, *at, *len));
-                times.fill(ledger.len(), self.clock);
+                let reply = delete(alloc, ledger, made, writer, Passage::new(*rev, *at, *len));
+                made.fill(ledger.len(), self.clock, visit);
                 reply
             }
             Act::Edit { rev, changes } => {
-                let reply = edit(alloc, ledger, times, writer, *rev, changes.as_slice());
-                times.fill(ledger.len(), self.clock);
+                let reply = edit(alloc, ledger, made, writer, *rev, changes.as_slice());
+                made.fill(ledger.len(), self.clock, visit);
                 reply
             }
             Act::Comment { rev, at, len, text } => {
                 let passage = Passage::new(*rev, *at, *len);
-                let reply = comment(alloc, ledger, times, writer, passage, text);
-                times.fill(ledger.len(), self.clock);
+                let reply = comment(alloc, ledger, made, writer, passage, text);
+                made.fill(ledger.len(), self.clock, visit);
                 reply
             }
             Act::Resolve { comment } => {
-                let reply = resolve(alloc, ledger, times, writer, *comment);
-                times.fill(ledger.len(), self.clock);
+                let reply = resolve(alloc, ledger, made, writer, *comment);
+                made.fill(ledger.len(), self.clock, visit);
                 reply
             }
             Act::Text { rev } => read_text(alloc, ledger, *rev),
@@ -435,16 +463,19 @@ impl<S: Sequence> Pad<S> {
             Act::Comments { rev } => read_comments(alloc, ledger, *rev),
             Act::Changes { rev, to, wait } => read_changes(alloc, ledger, *rev, *to, *wait),
             Act::Revs => read_revs(ledger),
-            Act::Entries {
-                from,
-                count,
-                times: timed,
-            } => { read_entries(alloc, ledger, times, *from, *count, *timed) }
-            Act::Times { from, step, count } => {
-                read_times(alloc, ledger, times, *from, *step, *count)
+            Act::Entries { from, count, times } => {
+                read_entries(alloc, ledger, made.times(), *from, *count, *times)
             }
-            Act::RevsAt { moments } => read_revs_at(alloc, ledger, times, moments.as_slice()),
-            Act::Birth { rev, at } => read_birth(ledger, times, *rev, *at),
+            Act::Times { from, step, count } => {
+                read_times(alloc, ledger, made.times(), *from, *step, *count)
+            }
+            Act::RevsAt { moments } => read_revs_at(
+                alloc,
+                ledger,
+                made.times(),
+                moments.as_slice(),
+            ),
+            Act::Birth { rev, at } => read_birth(ledger, made.times(), *rev, *at),
             Act::Grant { grantee, right } => match &mut self.owned {
                 Some(owned) => grant(&mut owned.rights, ledger.len(), grantee, *right),
                 None => Err(Refusal::NoPad),
@@ -459,7 +490,7 @@ impl<S: Sequence> Pad<S> {
             },
             Act::Mark { rev, text } => match &mut self.owned {
                 Some(owned) => {
-                    let at = self.clock.max(times.last());
+                    let at = self.clock.max(made.last());
                     mark(&mut owned.marks, ledger.len(), *rev, name, at, text)
                 }
                 None => Err(Refusal::NoPad),
@@ -482,16 +513,16 @@ impl<S: Sequence> Pad<S> {
         match act {
             Act::Vector => read_vector(&self.ledger, version),
             Act::Push { op } => {
-                let times = &mut self.times;
+                let made = &mut self.made;
                 let reply = push(
                     alloc,
                     &mut self.ledger,
-                    times,
+                    made,
                     &mut self.held,
                     self.replica,
                     op,
                 );
-                times.fill(self.ledger.len(), self.clock);
+                made.fill(self.ledger.len(), self.clock, 0);
                 reply
             }
             Act::Pull { seen, max, batch } => {

@@ -15,7 +15,7 @@ use crate::append::append;
 use crate::ledger::Ledger;
 use crate::reply::{PadReply, Pushed};
 use holdback::{Hold, MAX_HELD, Offer, is_ready};
-use op_log::TimeList;
+use op_log::MadeList;
 use pad_model::{Op, OpName, Refusal, Seen, Sequence};
 use std::alloc::Global;
 
@@ -31,23 +31,23 @@ pub struct Released {
 pub fn push<S: Sequence>(
     alloc: Global,
     ledger: &mut Ledger<S>,
-    times: &mut TimeList,
+    made: &mut MadeList,
     held: &mut Hold,
     replica: u16,
     op: &Op,
 ) -> Result<PadReply, Refusal>
     requires held { AllByRecursion (λ op. IsTrue (is_checked op)) held.old }
-    requires room { length ledger.old ≤ times.old.room }
+    requires room { length ledger.old ≤ made.old.room }
     ensures answer { Answers (ledger.old, held.old) (exchange.push replica op.now (ledger.old, held.old))
         result (ledger.new, held.new) ⊎ ((result ≡ Err Refusal.Memory)
         × Stopped replica op.now (ledger.old, held.old) (ledger.new, held.new)) }
     ensures held { AllByRecursion (λ op. IsTrue (is_checked op)) held.new }
-    ensures times { times.new.times ≡ times.old.times }
+    ensures made { made.new.made ≡ made.old.made }
     ensures grown { length ledger.old ≤ length ledger.new }
-    ensures room { length ledger.new ≤ times.new.room }
+    ensures room { length ledger.new ≤ made.new.room }
 {
-    let state = receive(alloc, ledger, times, held, replica, op)?;
-    let released = settle(alloc, ledger, times, held)?;
+    let state = receive(alloc, ledger, made, held, replica, op)?;
+    let released = settle(alloc, ledger, made, held)?;
     Ok(PadReply::Pushed {
         now: ledger.len(),
         state,
@@ -60,19 +60,19 @@ pub fn push<S: Sequence>(
 fn receive<S: Sequence>(
     alloc: Global,
     ledger: &mut Ledger<S>,
-    times: &mut TimeList,
+    made: &mut MadeList,
     held: &mut Hold,
     replica: u16,
     op: &Op,
 ) -> Result<Pushed, Refusal>
     requires held { AllByRecursion (λ op. IsTrue (is_checked op)) held.old }
-    requires room { length ledger.old ≤ times.old.room }
+    requires room { length ledger.old ≤ made.old.room }
     ensures answer { Answers (ledger.old, held.old) (received replica op.now (ledger.old, held.old))
         result (ledger.new, held.new) }
     ensures held { AllByRecursion (λ op. IsTrue (is_checked op)) held.new }
-    ensures times { times.new.times ≡ times.old.times }
+    ensures made { made.new.made ≡ made.old.made }
     ensures grown { length ledger.old ≤ length ledger.new }
-    ensures room { length ledger.new ≤ times.new.room }
+    ensures room { length ledger.new ≤ made.new.room }
 {
     op.check()?;
     if is_known(ledger, held, op.name) {
@@ -82,7 +82,7 @@ fn receive<S: Sequence>(
         return Err(Refusal::PeerFault);
     }
     if is_ready(op, ledger.seen()) {
-        return deliver(alloc, ledger, times, op);
+        return deliver(alloc, ledger, made, op);
     }
     hold_back(held, op, ledger.seen())
 }
@@ -120,24 +120,24 @@ fn is_known<S: Sequence>(ledger: &Ledger<S>, held: &Hold, name: OpName) -> bool
 fn deliver<S: Sequence>(
     alloc: Global,
     ledger: &mut Ledger<S>,
-    times: &mut TimeList,
+    made: &mut MadeList,
     op: &Op,
 ) -> Result<Pushed, Refusal>
     requires checked { IsTrue (is_checked op.now) }
     requires ready { IsTrue (is_ready (vector_of ledger.old) op.now) }
-    requires room { length ledger.old ≤ times.old.room }
+    requires room { length ledger.old ≤ made.old.room }
     ensures answer { (held : List Op) → Answers (ledger.old, held)
         (delivered op.now (delivery_refusal op.now ledger.old) ledger.old held) result
         (ledger.new, held) }
-    ensures times { times.new.times ≡ times.old.times }
+    ensures made { made.new.made ≡ made.old.made }
     ensures grown { length ledger.old ≤ length ledger.new }
-    ensures room { length ledger.new ≤ times.new.room }
+    ensures room { length ledger.new ≤ made.new.room }
 {
     if let Some(refusal) = ledger.refusal_of(op) {
         return Err(refusal);
     }
     let op = op.clone()?;
-    append(alloc, ledger, times, op)?;
+    append(alloc, ledger, made, op)?;
     Ok(Pushed::Delivered)
 }
 
@@ -145,27 +145,27 @@ fn deliver<S: Sequence>(
 fn settle<S: Sequence>(
     alloc: Global,
     ledger: &mut Ledger<S>,
-    times: &mut TimeList,
+    made: &mut MadeList,
     held: &mut Hold,
 ) -> Result<Released, Refusal>
     requires held { AllByRecursion (λ op. IsTrue (is_checked op)) held.old }
-    requires room { length ledger.old ≤ times.old.room }
+    requires room { length ledger.old ≤ made.old.room }
     ensures ok { IfOk result (λ released. delivery released ledger.new held.new
         ≡ exchange.settle (unsettled (ledger.old, held.old))) }
     ensures memory { IfErr result (λ e. (e ≡ Refusal.Memory) × (n : ℕ)
         × ((ledger.new, held.new) ≡ both_of (steps n (unsettled (ledger.old, held.old))))
         × IsStuck (ledger.new, held.new)) }
     ensures held { AllByRecursion (λ op. IsTrue (is_checked op)) held.new }
-    ensures times { times.new.times ≡ times.old.times }
+    ensures made { made.new.made ≡ made.old.made }
     ensures grown { length ledger.old ≤ length ledger.new }
-    ensures room { length ledger.new ≤ times.new.room }
+    ensures room { length ledger.new ≤ made.new.room }
 {
     let mut released = Released {
         delivered: 0,
         dropped: 0,
     };
     for _n in 0..held.len() {
-        if !release(alloc, ledger, times, held, &mut released)? {
+        if !release(alloc, ledger, made, held, &mut released)? {
             return Ok(released);
         }
     }
@@ -177,13 +177,13 @@ fn settle<S: Sequence>(
 fn release<S: Sequence>(
     alloc: Global,
     ledger: &mut Ledger<S>,
-    times: &mut TimeList,
+    made: &mut MadeList,
     held: &mut Hold,
     released: &mut Released,
 ) -> Result<bool, Refusal>
     requires held { AllByRecursion (λ op. IsTrue (is_checked op)) held.old }
     requires few { released.old.delivered + released.old.dropped < u64.MAX }
-    requires room { length ledger.old ≤ times.old.room }
+    requires room { length ledger.old ≤ made.old.room }
     ensures ok { OnOk result (delivery released.new ledger.new held.new
         ≡ exchange.release (delivery released.old ledger.old held.old)) }
     ensures settled { result ≡ Ok false → find (is_ready (vector_of ledger.old)) held.old ≡ None }
@@ -191,9 +191,9 @@ fn release<S: Sequence>(
         × (delivery released.new ledger.new held.new ≡ delivery released.old ledger.old held.old)
         × IsStuck (ledger.new, held.new)) }
     ensures held { AllByRecursion (λ op. IsTrue (is_checked op)) held.new }
-    ensures times { times.new.times ≡ times.old.times }
+    ensures made { made.new.made ≡ made.old.made }
     ensures grown { length ledger.old ≤ length ledger.new }
-    ensures room { length ledger.new ≤ times.new.room }
+    ensures room { length ledger.new ≤ made.new.room }
 {
     let Some(op) = next_op(ledger, held) else {
         return Ok(false);
@@ -205,7 +205,7 @@ fn release<S: Sequence>(
         return Ok(true);
     }
     let op = op.clone()?;
-    append(alloc, ledger, times, op)?;
+    append(alloc, ledger, made, op)?;
     held.take(name);
     released.delivered += 1;
     Ok(true)

@@ -75,6 +75,13 @@ pub enum PadReply {
         now: u64,
         visit: u64,
     },
+    /// The new visit has this number. The old one made so many operations, the last of which has this name.
+    Rejoined {
+        now: u64,
+        visit: u64,
+        made: u64,
+        last: Option<OpName>,
+    },
     /// It is done.
     Done {
         now: u64,

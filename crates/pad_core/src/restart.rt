@@ -1,52 +1,62 @@
 //! Restores the parts of a pad after a restart.
-ghost use Rattle.std.specs.Prelude.{◌≡◌, ◌≤◌, length, ◌++◌, ◌∷◌, [], IsTrue, Ok, Option, None, Some};
+ghost use Rattle.std.specs.Prelude.{◌≡◌, ◌≤◌, length, ◌++◌, ◌∷◌, [], IsTrue, Ok, Option, None, Some, option_copied};
 ghost use Rattle.pad_model.specs.Answers.{Answers};
-ghost use Rattle.presence.specs.Presence.{Presence, joined};
+ghost use Rattle.presence.specs.Presence.{Presence, counted};
 ghost use Rattle.pad_core.specs.Machine.{new_owned, nobody_present};
-ghost use Rattle.pad_core.specs.Restart.{delivered_again, ended, granted_again, handed_again, marked_again, visited};
+ghost use Rattle.pad_core.specs.Restart.{author_if, delivered_again, granted_again, handed_again, marked_again, visited};
 ghost use Rattle.pad_core.specs.Restart as restart;
 ghost use Rattle.pad_core.specs.declared.owned.Owned.{Owned};
 
 use crate::append::append;
 use crate::ledger::Ledger;
 use crate::marks::name_revision;
-use crate::owned::{Owned, own};
+use crate::owned::Owned;
 use named_revisions::NamedRevision;
-use op_log::TimeList;
+use op_log::MadeList;
 use pad_model::{Name, Op, OpName, Refusal, Seen, Sequence};
 use presence::PresenceBook;
 use rights::{Grantee, Right};
 use std::alloc::Global;
 
-/// Gives an unnamed pad this name and owner, and ends the owner's visit.
+/// Gives an unnamed pad this name and owner, and counts the owner's visit. If no visits are recorded, nobody knows what
+/// was made in it.
 pub fn own_again(
     alloc: Global,
     owned: &mut Option<Owned>,
     presence: &mut PresenceBook,
     name: &str,
     owner: &str,
+    visits: bool,
 ) -> Result<(), Refusal>
     requires { presence.old ≡ nobody_present presence.old.limit }
     ensures { Answers {S = Option Owned × Presence} (owned.old, presence.old) (
       Ok tt,
       (
         Some (new_owned name.now owner.now),
-        ended (joined owner.now presence.old),
+        counted (author_if visits owner.now) presence.old,
       ),
     ) result (owned.new, presence.new) }
 {
-    own(alloc, owned, presence, name, owner)?;
-    let _left = presence.leave(1);
+    let named = Owned::new(alloc, name, owner)?;
+    if visits {
+        presence.count(alloc, Some(owner))?;
+    } else {
+        presence.count(alloc, None)?;
+    }
+    *owned = Some(named);
     Ok(())
 }
 
-/// Counts a visit that has ended, which counts towards no limit of those present.
-pub fn visit_again(alloc: Global, presence: &mut PresenceBook, author: &str) -> Result<(), Refusal>
-    ensures { Answers presence.old (visited author.now presence.old) result presence.new }
+/// Counts a visit that has ended, which counts towards no limit of those present. None: nobody knows whose it was.
+pub fn visit_again(
+    alloc: Global,
+    presence: &mut PresenceBook,
+    author: Option<&str>,
+) -> Result<(), Refusal>
+    ensures { Answers presence.old (visited (option_copied author.entry) presence.old) result
+        presence.new }
 {
-    let visit = presence.enter(alloc, author)?;
-    let _left = presence.leave(visit);
-    Ok(())
+    presence.count(alloc, author)
 }
 
 /// Gives a right, or takes it away, if the pad has a name.
@@ -94,14 +104,14 @@ pub fn mark_again(owned: &mut Option<Owned>, now: u64, named: &NamedRevision) ->
 pub fn deliver_again<S: Sequence>(
     alloc: Global,
     ledger: &mut Ledger<S>,
-    times: &mut TimeList,
+    made: &mut MadeList,
     op: Op,
 ) -> Result<(), Refusal>
-    requires room { length ledger.old ≤ times.old.room }
+    requires room { length ledger.old ≤ made.old.room }
     ensures answer { Answers ledger.old (delivered_again op ledger.old) result ledger.new }
-    ensures times { times.new.times ≡ times.old.times }
+    ensures made { made.new.made ≡ made.old.made }
     ensures grown { length ledger.old ≤ length ledger.new }
-    ensures room { length ledger.new ≤ times.new.room }
+    ensures room { length ledger.new ≤ made.new.room }
 {
     op.check()?;
     if !is_next(ledger.seen(), op.name) {
@@ -110,7 +120,7 @@ pub fn deliver_again<S: Sequence>(
     if let Some(refusal) = ledger.refusal_of(&op) {
         return Err(refusal);
     }
-    append(alloc, ledger, times, op)?;
+    append(alloc, ledger, made, op)?;
     Ok(())
 }
 

@@ -10,6 +10,7 @@ ghost use Rattle.pad_core.specs.Presence as presence_spec;
 use crate::ledger::Ledger;
 use crate::make::stamp_before;
 use crate::reply::{PadReply, Present};
+use op_log::MadeList;
 use pad_model::{Author, Items, Name, Refusal, Sequence};
 use presence::{PresenceBook, Visit};
 use std::alloc::{AllocError, Global};
@@ -25,6 +26,33 @@ pub fn join(
 {
     let visit = presence.join(alloc, author.as_str())?;
     Ok(PadReply::Joined { now, visit })
+}
+
+/// Starts a visit of an author instead of an old one of theirs, and tells what the old one made.
+pub fn rejoin<S: Sequence>(
+    alloc: Global,
+    ledger: &Ledger<S>,
+    made: &MadeList,
+    presence: &mut PresenceBook,
+    old: u64,
+    author: &Name,
+) -> Result<PadReply, Refusal>
+    requires { length made.now.made.visits ≡ length ledger.now }
+    ensures { Answers presence.old
+        (presence_spec.rejoin old author.now ledger.now made.now.made presence.old) result
+        presence.new }
+{
+    let visit = presence.rejoin(alloc, old, author.as_str())?;
+    let tally = made.tally(old);
+    Ok(PadReply::Rejoined {
+        now: ledger.len(),
+        visit,
+        made: tally.made,
+        last: match tally.last {
+            Some(place) => ledger.name_at(place),
+            None => None,
+        },
+    })
 }
 
 /// Ends a visit.

@@ -69,6 +69,8 @@ pub enum Refusal {
     LogFull,
     /// 328: the pad has 10,000 comments.
     CommentsFull,
+    /// 329: no visit of this author has the number.
+    NoVisit,
     /// 400: the operation breaks a limit or has a faulty form.
     BadOp,
     /// 402: 256 operations are held back.
@@ -123,6 +125,7 @@ impl Refusal {
             Refusal::NoComment => 326,
             Refusal::LogFull => 327,
             Refusal::CommentsFull => 328,
+            Refusal::NoVisit => 329,
             Refusal::BadOp => 400,
             Refusal::HoldFull => 402,
             Refusal::PeerFault => 403,
@@ -169,6 +172,7 @@ impl Refusal {
             Refusal::NoComment => "NoComment",
             Refusal::LogFull => "LogFull",
             Refusal::CommentsFull => "CommentsFull",
+            Refusal::NoVisit => "NoVisit",
             Refusal::BadOp => "BadOp",
             Refusal::HoldFull => "HoldFull",
             Refusal::PeerFault => "PeerFault",

@@ -19,6 +19,8 @@ mod index;
 #[cfg(test)]
 mod log;
 #[cfg(test)]
+mod made;
+#[cfg(test)]
 mod named;
 #[cfg(test)]
 mod packed_log;

@@ -1,5 +1,5 @@
 //! The visits present on a pad, and the pads that a session has joined, compared with results worked out by hand.
-use crate::presence_book::VisitCase::{Caret, Holds, Join, Leave, Present};
+use crate::presence_book::VisitCase::{Caret, Count, Holds, Instead, Join, Leave, Present};
 use pad_model::{Name, Refusal, Stamp, Version, Who};
 use presence::{DEFAULT_PRESENT, MAX_PRESENT, PresenceBook, Visit};
 use sessions::{Room, Session};
@@ -17,6 +17,9 @@ type Plain = (u64, &'static str, Option<CaretStamp>);
 #[derive(Clone, Copy, Debug)]
 enum VisitCase {
     Join(&'static str, Result<u64, Refusal>),
+    Instead(u64, &'static str, Result<u64, Refusal>),
+    /// A visit from before a restart, and its author where that is known.
+    Count(Option<&'static str>, Result<(), Refusal>),
     Caret(u64, Option<CaretStamp>, Result<(), Refusal>),
     Leave(u64, Result<(), Refusal>),
     Holds(u64, &'static str, bool),
@@ -83,6 +86,14 @@ fn play(
     match step {
         Join(author, want) => {
             let came = book.join(alloc, author);
+            assert!(rt; came == want, "step {place}, {step:?}: came {came:?}");
+        }
+        Instead(old, author, want) => {
+            let came = book.rejoin(alloc, old, author);
+            assert!(rt; came == want, "step {place}, {step:?}: came {came:?}");
+        }
+        Count(author, want) => {
+            let came = book.count(alloc, author);
             assert!(rt; came == want, "step {place}, {step:?}: came {came:?}");
         }
         Caret(visit, at, want) => {
@@ -193,6 +204,34 @@ const TWO: &[VisitCase] = &[
     Join("ann", Err(Refusal::Crowded)),
     Present(&[(2, "bob", None), (3, "eve", None)]),
 ];
+
+/// Visits that take the place of others, in a book where two may be present.
+const REPLACED: &[VisitCase] = &[
+    Count(Some("ann"), Ok(())),
+    Count(None, Ok(())),
+    Join("ann", Ok(3)),
+    Join("bob", Ok(4)),
+    Instead(0, "ann", Err(Refusal::NoVisit)),
+    Instead(2, "ann", Err(Refusal::NoVisit)),
+    Instead(4, "ann", Err(Refusal::NoVisit)),
+    Instead(5, "ann", Err(Refusal::NoVisit)),
+    Instead(u64::MAX, "ann", Err(Refusal::NoVisit)),
+    Instead(1, "ann", Err(Refusal::Crowded)),
+    Instead(3, "ann", Ok(5)),
+    Present(&[(4, "bob", None), (5, "ann", None)]),
+    Instead(3, "ann", Err(Refusal::Crowded)),
+    Leave(4, Ok(())),
+    Instead(4, "bob", Ok(6)),
+    Leave(5, Ok(())),
+    Instead(1, "ann", Ok(7)),
+    Present(&[(6, "bob", None), (7, "ann", None)]),
+];
+
+#[test]
+fn a_visit_takes_the_place_of_another(rt: HostRuntime) -> Result<(), Fail> {
+    let mut book = PresenceBook::new(rt.alloc(), 2);
+    Ok(play_all(&rt, rt.alloc(), &mut book, REPLACED)?)
+}
 
 #[test]
 fn limit_presence_of_two(rt: HostRuntime) -> Result<(), Fail> {

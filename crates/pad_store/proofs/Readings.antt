@@ -1,6 +1,7 @@
 -- What a pad answers to readers, and that its log stays unchanged.
 use Rattle.std.proofs.Common.{◌≡◌, ◌⊎◌, inl, inr, ℕ, Bool, true, false, List, Option, Some, None, unwrap_or, Result, Ok, Err}
 use Rattle.std.proofs.Common.{refl, sym, ap, ◌∙◌, subst, bytes_eq, length, encode_utf8_all, IfErr, IfOk, MatchResult}
+use Rattle.op_log.specs.Made.{Made}
 use Rattle.pad_model.specs.declared.op.Op.{Op}
 use Rattle.pad_model.specs.declared.refusal.Refusal.{Refusal}
 use Rattle.pad_model.specs.declared.refusal.Refusal.TheVariants.{Memory, NoSession}
@@ -63,13 +64,13 @@ read_session a told owned (Peer number version) visit m new reply is done =
 
 read_step : (a : Act) (told : Machine → Result PadReply Refusal) (pad : List ℕ) (who : Who) (visit : Option ℕ)
     (new : Machine) (reply : PadReply) (o : Option Owned) (replica : ℕ) (log held : List Op) (p : Presence)
-    (clock : ℕ) (times : List ℕ) → IsReading a told → (let m : Machine =
-    record { owned = o; replica = replica; log = log; held = held; presence = p; clock = clock; times = times } in
+    (clock : ℕ) (made : Made) → IsReading a told → (let m : Machine =
+    record { owned = o; replica = replica; log = log; held = held; presence = p; clock = clock; made = made } in
     step pad who visit a m
     ≡ (Ok reply, new) → ((reply ≡ Elsewhere) ⊎ (told m ≡ Ok reply)) × (m ≡ new))
-read_step a told pad who visit new reply None replica log held p clock times is done =
+read_step a told pad who visit new reply None replica log held p clock kept is done =
     absurd (ok_err reply _ (ap (λ d. d.0) done))
-read_step a told pad who visit new reply (Some owned) replica log held p clock times is done =
+read_step a told pad who visit new reply (Some owned) replica log held p clock kept is done =
     split (bytes_eq owned.name pad)
     (λ yes. let got = read_session a told owned who visit _ new reply is (rw yes at done) in (inr got.0, got.1))
     (λ no. let left = rw no at done in (inl (same_ok Elsewhere reply (ap (λ d. d.0) left)), ap (λ d. d.1) left))
@@ -83,7 +84,7 @@ told_step this pad who visit m new answer done = by_act this done
         ≡ (Ok answer, new) → ((answer ≡ Elsewhere) ⊎ (told m ≡ Ok answer)) × (new.log ≡ m.log)
     through a told is made =
         let got = read_step a told pad who visit new answer m.owned m.replica m.log m.held m.presence
-        m.clock m.times is made in
+        m.clock m.made is made in
         (got.0, ap (λ (k : Machine). k.log) (sym got.1))
 
     by_act : (a : Act) → step pad who visit a m ≡ (Ok answer, new) → IsTold a answer m new
@@ -97,7 +98,7 @@ told_step this pad who visit m new answer done = by_act this done
         (λ k. read_changes rev to wait k.log) (λ owned name v k. refl, λ version k. refl) made
     by_act act.Revs made reads = through act.Revs (λ k. read_revs k.log)
         (λ owned name v k. refl, λ version k. refl) made
-    by_act (act.RevsAt moments) made reads = through (act.RevsAt moments) (λ k. read_revs_at moments k.log k.times)
+    by_act (act.RevsAt moments) made reads = through (act.RevsAt moments) (λ k. read_revs_at moments k.log k.made.times)
         (λ owned name v k. refl, λ version k. refl) made
     by_act a made reads = absurd reads
 
@@ -119,39 +120,39 @@ told m new event r answer is h = told_step event.act.now event.pad.now event.who
 
 -- what readers are answered from
 abbrev read_from : Result PadReply Refusal × Machine → List Op × List ℕ
-read_from done = (done.1.log, done.1.times)
+read_from done = (done.1.log, done.1.made.times)
 
 joins_author : (owned : Owned) (name : List ℕ) (visit : Option ℕ) (m : Machine) (r : Option Refusal) →
     author_refusal owned.rights m.presence name visit act.Join ≡ r →
-    read_from (author_step owned name visit act.Join m) ≡ (m.log, m.times)
+    read_from (author_step owned name visit act.Join m) ≡ (m.log, m.made.times)
 joins_author owned name visit m (Some refusal) e = rw e refl
 joins_author owned name visit m None e = rw e refl
 
 joins_session : (owned : Owned) (who : Who) (visit : Option ℕ) (m : Machine) →
-    read_from (session_step owned who visit act.Join m) ≡ (m.log, m.times)
+    read_from (session_step owned who visit act.Join m) ≡ (m.log, m.made.times)
 joins_session owned Nobody visit m = refl
 joins_session owned (Author name) visit m =
     joins_author owned name visit m (author_refusal owned.rights m.presence name visit act.Join) refl
 joins_session owned (Peer number version) visit m = refl
 
 joins_step : (pad : List ℕ) (who : Who) (visit : Option ℕ) (o : Option Owned) (replica : ℕ) (log held : List Op)
-    (p : Presence) (clock : ℕ) (times : List ℕ) → (let m : Machine =
-    record { owned = o; replica = replica; log = log; held = held; presence = p; clock = clock; times = times } in
+    (p : Presence) (clock : ℕ) (made : Made) → (let m : Machine =
+    record { owned = o; replica = replica; log = log; held = held; presence = p; clock = clock; made = made } in
     read_from (step pad who visit act.Join m)
-    ≡ (log, times))
-joins_step pad who visit None replica log held p clock times = refl
-joins_step pad who visit (Some owned) replica log held p clock times =
+    ≡ (log, made.times))
+joins_step pad who visit None replica log held p clock made = refl
+joins_step pad who visit (Some owned) replica log held p clock made =
     split (bytes_eq owned.name pad) (λ yes. rw yes (joins_session owned who visit _)) (λ no. rw no refl)
 
 -- joining a pad leaves its log and its times unchanged
 pub joined : (m new : Machine) (event : PadEvent) (r : Result PadReply Refusal) (answer : PadReply) →
-    event.act.now ≡ act.Join → r ≡ Ok answer → Stepped m event r new → (new.log ≡ m.log) × (new.times ≡ m.times)
+    event.act.now ≡ act.Join → r ≡ Ok answer → Stepped m event r new → (new.log ≡ m.log) × (new.made.times ≡ m.made.times)
 joined m new event r answer is answered h =
     let done : step event.pad.now event.who.now event.visit act.Join m ≡ (Ok answer, new) =
     ap (λ a. step event.pad.now event.who.now event.visit a m) (sym is)
     ∙ was_stepped m new event answer (subst (λ (x : Result PadReply Refusal). Stepped m event x new) answered h) in
-    let same : (new.log, new.times) ≡ (m.log, m.times) = ap read_from (sym done)
-    ∙ joins_step event.pad.now event.who.now event.visit m.owned m.replica m.log m.held m.presence m.clock m.times in
+    let same : (new.log, new.made.times) ≡ (m.log, m.made.times) = ap read_from (sym done)
+    ∙ joins_step event.pad.now event.who.now event.visit m.owned m.replica m.log m.held m.presence m.clock m.made in
     (ap (λ d. d.0) same, ap (λ d. d.1) same)
 
 -- if no damage is reported, no damage is reported wrongly
@@ -180,7 +181,7 @@ if_err Q r e is h = subst (λ q. IfErr q Q) is h
 
 -- the bytes of a file lead to the pad that was loaded
 pub leads : (bytes name : List ℕ) (read : Read) → pad_read 1 DEFAULT_PRESENT name bytes ≡ Ok read →
-    LeadTo bytes read.pad.log read.pad.times
+    LeadTo bytes read.pad.log read.pad.made.times
 unfolding LeadTo
 leads bytes name read is = (name, read, is, refl, refl)
 
@@ -195,8 +196,8 @@ damaged bytes name found (inr is) = (name, is)
 -- the pad that was begun has the log and the times of the one that was loaded
 pub begins : (bytes : List ℕ) (log : List Op) (times : List ℕ) (r : Result InspectedPad Trouble) →
     LeadTo bytes log times →
-    MatchResult r (λ book. (book.pad.log ≡ log) × (book.pad.times ≡ times)) IsNoDamage →
-    MatchResult r (λ book. LeadTo bytes book.pad.log book.pad.times) (λ t. IsFault bytes t)
+    MatchResult r (λ book. (book.pad.log ≡ log) × (book.pad.made.times ≡ times)) IsNoDamage →
+    MatchResult r (λ book. LeadTo bytes book.pad.log book.pad.made.times) (λ t. IsFault bytes t)
 begins bytes log times (Ok book) lead begun =
     subst (λ (t : List ℕ). LeadTo bytes book.pad.log t) (sym begun.1)
     (subst (λ (l : List Op). LeadTo bytes l times) (sym begun.0) lead)

@@ -21,7 +21,7 @@ use Rattle.pad_store.specs.declared.trouble.Trouble.TheVariants.{Memory, Damaged
 -- the bytes of a file lead to a pad with this log and these times, under some name
 unfoldable pub LeadTo : List ℕ → List Op → List ℕ → Type 0
 LeadTo bytes log times = (name : List ℕ) × (read : Read)
-    × (pad_read 1 DEFAULT_PRESENT name bytes ≡ Ok read) × (log ≡ read.pad.log) × (times ≡ read.pad.times)
+    × (pad_read 1 DEFAULT_PRESENT name bytes ≡ Ok read) × (log ≡ read.pad.log) × (times ≡ read.pad.made.times)
 
 -- a text in UTF-8 is that of the revision that is asked for, of the pad that the bytes of a file lead to
 unfoldable pub Shows : List ℕ → RevisionChoice → List ℕ → Type 0
@@ -58,7 +58,7 @@ IsAnswered (act.Runs rev) answer m = read_runs rev m.log ≡ Ok answer
 IsAnswered (act.Comments rev) answer m = read_comments rev m.log ≡ Ok answer
 IsAnswered (act.Changes rev to wait) answer m = read_changes rev to wait m.log ≡ Ok answer
 IsAnswered act.Revs answer m = read_revs m.log ≡ Ok answer
-IsAnswered (act.RevsAt moments) answer m = read_revs_at moments m.log m.times ≡ Ok answer
+IsAnswered (act.RevsAt moments) answer m = read_revs_at moments m.log m.made.times ≡ Ok answer
 IsAnswered other answer m = Unit {0}
 
 -- whether an act only reads the log and the times

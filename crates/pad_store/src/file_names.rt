@@ -35,7 +35,7 @@ fn owner_on(alloc: Global, line: &[u8]) -> Result<Option<Name>, AllocError> {
         return Ok(None);
     }
     match entry_on(alloc, line)? {
-        Some(StoreLine::Record(Record::Named { name: _pad, owner })) => Ok(Some(owner)),
+        Some(StoreLine::Record(Record::Named { owner, .. })) => Ok(Some(owner)),
         Some(StoreLine::Record(Record::Handed { author })) => Ok(Some(author)),
         _ => Ok(None),
     }

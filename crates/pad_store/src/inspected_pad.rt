@@ -35,7 +35,7 @@ pub struct InspectedPad {
 impl InspectedPad {
     /// Reads the bytes of a file, for the pad name in its first line.
     pub fn read(alloc: Global, bytes: &[u8]) -> Result<InspectedPad, Trouble>
-        ensures { MatchResult result (λ book. LeadTo bytes.now book.pad.log book.pad.times)
+        ensures { MatchResult result (λ book. LeadTo bytes.now book.pad.log book.pad.made.times)
             (λ trouble. IsFault bytes.now trouble) }
     {
         let name = match pad_in(alloc, bytes) {
@@ -58,7 +58,7 @@ impl InspectedPad {
     /// The number of the revision that is asked for.
     pub fn number_of(&mut self, alloc: Global, asked: RevisionChoice) -> Result<u64, Trouble>
         ensures told { IfOk result
-            (λ rev. rev ≡ choices.number_of asked self.old.pad.log self.old.pad.times) }
+            (λ rev. rev ≡ choices.number_of asked self.old.pad.log self.old.pad.made.times) }
         ensures kept { OnOk result (self.new.pad.log ≡ self.old.pad.log) }
         ensures fault { IfErr result IsNoDamage }
     {
@@ -71,7 +71,7 @@ impl InspectedPad {
 
     // The last revision that was made not later than a moment, in milliseconds since 1970.
     fn revision_at(&mut self, alloc: Global, moment: u64) -> Result<u64, Trouble>
-        ensures told { IfOk result (λ rev. rev ≡ count_until moment self.old.pad.times) }
+        ensures told { IfOk result (λ rev. rev ≡ count_until moment self.old.pad.made.times) }
         ensures kept { OnOk result (self.new.pad.log ≡ self.old.pad.log) }
         ensures fault { IfErr result IsNoDamage }
     {
@@ -187,7 +187,7 @@ fn one(alloc: Global, number: u64) -> Result<Items<u64>, AllocError>
 // Loads the pad with this name from the bytes of its file.
 fn load_pad(alloc: Global, name: &str, bytes: &[u8]) -> Result<Loaded<BlockSeq>, Trouble>
     ensures { MatchResult result (λ loaded. LeadTo bytes.now loaded.pad.log
-        loaded.pad.times)
+        loaded.pad.made.times)
         (λ trouble. IsFault bytes.now trouble) }
 {
     match load(alloc, 1, DEFAULT_PRESENT, name, bytes) {
@@ -204,7 +204,7 @@ fn begin(
     bytes: &[u8],
 ) -> Result<InspectedPad, Trouble>
     ensures { MatchResult result (λ book. (book.pad.log ≡ loaded.pad.log)
-        × (book.pad.times ≡ loaded.pad.times)) IsNoDamage }
+        × (book.pad.made.times ≡ loaded.pad.made.times)) IsNoDamage }
 {
     let whole = bytes.len().min(loaded.whole as usize);
     let owner = match owner_in(alloc, &bytes[..whole]) {
@@ -226,7 +226,7 @@ fn begin(
 // Lets an author join a pad, and returns the visit.
 fn join(alloc: Global, pad: &mut Pad<BlockSeq>, name: &str, who: &Who) -> Result<u64, Trouble>
     ensures { MatchResult result (λ _. (pad.new.log ≡ pad.old.log)
-        × (pad.new.times ≡ pad.old.times)) IsNoDamage }
+        × (pad.new.made.times ≡ pad.old.made.times)) IsNoDamage }
 {
     let event = PadEvent {
         pad: name,

@@ -32,7 +32,7 @@ pub fn operation_on(alloc: Global, line: &[u8]) -> Result<Option<Operation<'_>>,
         None => return Ok(None),
     };
     match read_entry(alloc, &value) {
-        Ok(StoreLine::Record(Record::Delivered { at, op })) => Ok(Some(Operation {
+        Ok(StoreLine::Record(Record::Delivered { at, op, .. })) => Ok(Some(Operation {
             at,
             op,
             json,

@@ -65,7 +65,13 @@ fn line_with(
             format!(in alloc; "- {time} - owner {}\n", author.as_str())
         }
         StoreLine::Record(Record::Marked { named }) => named_line(alloc, named),
-        StoreLine::Record(Record::Visited) => format!(in alloc; "- {time} - visit\n"),
+        StoreLine::Record(Record::Visited { author }) => {
+            let author = match author {
+                Some(author) => author.as_str(),
+                None => "-",
+            };
+            format!(in alloc; "- {time} {author} visit\n")
+        }
         StoreLine::Record(Record::Delivered { .. }) => unknown(alloc),
     }
 }

@@ -1,2 +1,3 @@
 -- The lemmas, by topic.
+pub mod Authors
 pub mod Visits

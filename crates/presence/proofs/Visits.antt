@@ -1,18 +1,20 @@
 -- The visits of a pad, as the entries of the map that keeps them.
 use Rattle.std.proofs.Common.{◌≡◌, ℕ, ◌+◌, ◌<◌, Bool, true, false, ◌||◌, List, [], ◌∷◌, ◌++◌, Option, None}
-use Rattle.std.proofs.Common.{Some, Ok, Err, is_some, refl, sym, ap, subst, ◌∙◌, arith, nat_eq, bytes_eq}
+use Rattle.std.proofs.Common.{length, Some, Ok, Err, is_some, refl, sym, ap, ap₂, subst, ◌∙◌, arith, nat_eq, bytes_eq}
 use Rattle.std.specs.List.{AllByRecursion, list_any}
 use Rattle.std.specs.Map.{lookup, remove_entry, set_value}
-use Rattle.std.proofs.lemmas.Bool.{ne_eqb, lt-leb, eqb-true, cond-true, cond-false}
+use Rattle.std.proofs.lemmas.Bool.{ne_eqb, eqb-true, cond-true, cond-false}
+use Rattle.std.proofs.lemmas.List.{length-map}
 use Rattle.std.proofs.lemmas.Option.{same_Some}
+use Rattle.indexmap.proofs.CallerLemmas.{insert_entry-new}
+use Rattle.indexmap.specs.IndexMap.{IndexMap, insert_entry}
 use Rattle.pad_model.specs.Stamp.{Stamp}
 use Rattle.pad_model.specs.declared.refusal.Refusal.TheVariants.{NotJoined}
 use Rattle.pad_model.proofs.Newer.{split}
 use Rattle.pad_model.proofs.Each.{each-append, each-imply}
 use Rattle.presence.specs.declared.presence.Visit.{Visit}
 use Rattle.presence.specs.declared.presence.Visitor.{Visitor}
-use Rattle.presence.specs.declared.presence.TheConstants.{MAX_VISITS}
-use Rattle.presence.specs.Presence.{Presence, joined, spent_refusal, OnVisit, AreNumbered, has_number, left, with_caret}
+use Rattle.presence.specs.Presence.{Presence, joined, OnVisit, AreNumbered, has_number, left, with_caret}
 use Rattle.presence.specs.Presence.{is_joined_by}
 use Rattle.presence.specs.Inside.{visit_of, visits_of}
 
@@ -141,38 +143,84 @@ nobody_where_absent author n (e ∷ es) at =
     (λ f. rw f (nobody_where_absent author n es (sym (cond-false _ _ _ f) ∙ at)))
 
 -- a change of a visit that is present, and of one that is not
-pub done : (n limit given : ℕ) (vs new : List Visit) (change : ℕ → List Visit → List Visit) (old : Presence) →
-    record { limit = limit; given = given; present = vs } ≡ old
+pub done : (n limit given : ℕ) (vs new : List Visit) (authors : List (Option (List ℕ)))
+    (change : ℕ → List Visit → List Visit) (old : Presence)
+    → record { limit = limit; given = given; present = vs; authors = authors } ≡ old
     → list_any (has_number n) vs ≡ true → new ≡ change n vs
-    → OnVisit n old (record { limit = limit; given = given; present = new }) (Ok tt) change
-done n limit given vs new change old is there e =
-    subst (λ (p : Presence). OnVisit n p (record { limit = limit; given = given; present = new }) (Ok tt) change) is
-    (there, ap (λ (r : List Visit). let p : Presence = record { limit = limit; given = given; present = r } in p) e)
+    → OnVisit n old (record { limit = limit; given = given; present = new; authors = authors }) (Ok tt) change
+done n limit given vs new authors change old is there e =
+    let with_visits : List Visit → Presence =
+    λ r. record { limit = limit; given = given; present = r; authors = authors } in
+    subst (λ (p : Presence). OnVisit n p (with_visits new) (Ok tt) change) is (there, ap with_visits e)
 
-pub refused : (n limit given : ℕ) (vs new : List Visit) (change : ℕ → List Visit → List Visit) (old : Presence) →
-    record { limit = limit; given = given; present = vs } ≡ old
+pub refused : (n limit given : ℕ) (vs new : List Visit) (authors : List (Option (List ℕ)))
+    (change : ℕ → List Visit → List Visit) (old : Presence)
+    → record { limit = limit; given = given; present = vs; authors = authors } ≡ old
     → list_any (has_number n) vs ≡ false → new ≡ vs
-    → OnVisit n old (record { limit = limit; given = given; present = new }) (Err NotJoined) change
-refused n limit given vs new change old is absent e =
-    subst (λ (p : Presence). OnVisit n p (record { limit = limit; given = given; present = new }) (Err NotJoined)
-    change) is
-    (absent, refl, ap (λ (r : List Visit). let p : Presence = record { limit = limit; given = given; present = r } in p) e)
+    → OnVisit n old (record { limit = limit; given = given; present = new; authors = authors }) (Err NotJoined) change
+refused n limit given vs new authors change old is absent e =
+    let with_visits : List Visit → Presence =
+    λ r. record { limit = limit; given = given; present = r; authors = authors } in
+    subst (λ (p : Presence). OnVisit n p (with_visits new) (Err NotJoined) change) is (absent, refl, ap with_visits e)
 
-pub enter_done : (author : List ℕ) (limit given : ℕ) (vs new : List Visit) (old : Presence) →
-    record { limit = limit; given = given; present = vs } ≡ old
-    → given < MAX_VISITS → new ≡ vs ++ record { number = given + 1; author = author; caret = None } ∷ []
-    → (spent_refusal old ≡ None) × (given + 1 ≡ old.given + 1)
-    × (record { limit = limit; given = given + 1; present = new } ≡ joined author old)
-enter_done author limit given vs new old is spent e =
-    subst (λ (p : Presence). (spent_refusal p ≡ None) × (given + 1 ≡ p.given + 1)
-    × (record { limit = limit; given = given + 1; present = new } ≡ joined author p)) is (
-      cond-false _ _ _ (lt-leb MAX_VISITS given spent),
-      refl,
-      ap (λ (r : List Visit). let p : Presence = record { limit = limit; given = given + 1; present = r } in p) e,
-    )
+-- the next visit, after those that are present
+pub enter_done : (author : List ℕ) (limit given number : ℕ) (vs new : List Visit)
+    (authors after : List (Option (List ℕ))) (old : Presence)
+    → record { limit = limit; given = given; present = vs; authors = authors } ≡ old → number ≡ given + 1
+    → new ≡ vs ++ record { number = number; author = author; caret = None } ∷ [] → after ≡ authors ++ Some author ∷ []
+    → record { limit = limit; given = number; present = new; authors = after } ≡ joined author old
+enter_done author limit given number vs new authors after old is n e a =
+    let next : ℕ → List Visit → List (Option (List ℕ)) → Presence =
+    λ k r s. record { limit = limit; given = k; present = r; authors = s } in
+    let last = e ∙ ap (λ (k : ℕ). vs ++ record { number = k; author = author; caret = None } ∷ []) n in
+    subst (λ (p : Presence). next number new after ≡ joined author p) is
+    (ap (λ (k : ℕ). next k new after) n ∙ ap₂ (next (given + 1)) last a)
+
+-- the numbers are at most a greater one
+pub more_numbered : (last : ℕ) (vs : List Visit) → AreNumbered last vs → AreNumbered (last + 1) vs
+more_numbered last [] h = tt
+more_numbered last (v ∷ vs) h = (h.0, omega (arith, h.1), h.2, more_numbered last vs h.3)
+
+-- fewer are present without a visit that is found, and as many without another
+pub fewer_where_found : (last n : ℕ) (es : List (ℕ × Visitor)) → AreNumbered last (visits_of es) →
+    is_some (lookup (nat_eq n) es) ≡ true → length (left n (visits_of es)) + 1 ≡ length es
+fewer_where_found last n [] h at = cc
+fewer_where_found last n (e ∷ es) h at =
+    split (nat_eq n e.0)
+    (λ t. rw t (rw (others_stay n (visits_of es)
+    (each-imply (λ (v : Visit). e.0 < v.number) (λ (v : Visit). n < v.number) (λ v lt. omega (arith, eqb-true n e.0 t))
+    _ h.2)) (omega (arith, length-map es (λ entry. visit_of entry.0 entry.1)))))
+    (λ f. rw f (omega (arith, fewer_where_found last n es h.3 (sym (ap is_some (cond-false _ _ _ f)) ∙ at))))
+
+pub all_where_absent : (n : ℕ) (es : List (ℕ × Visitor)) → is_some (lookup (nat_eq n) es) ≡ false →
+    left n (visits_of es) ≡ visits_of es
+all_where_absent n [] at = refl
+all_where_absent n (e ∷ es) at =
+    split (nat_eq n e.0)
+    (λ t. let hit = sym (ap is_some (cond-true _ _ _ t)) ∙ at in cc)
+    (λ f. rw f (ap (λ (r : List Visit). visit_of e.0 e.1 ∷ r)
+    (all_where_absent n es (sym (ap is_some (cond-false _ _ _ f)) ∙ at))))
 
 -- one more entry is one more visit
 pub joined_entries : (es : List (ℕ × Visitor)) (n : ℕ) (w : Visitor) → visits_of (es ++ (n, w) ∷ []) ≡ visits_of es
     ++ visit_of n w ∷ []
 joined_entries [] n w = refl
 joined_entries (e ∷ es) n w = ap (λ (r : List Visit). visit_of e.0 e.1 ∷ r) (joined_entries es n w)
+
+-- an entry with the next number is put in after those that stay
+pub seated : {S : Type 0} (m : IndexMap ℕ Visitor S) (after stay : List (ℕ × Visitor)) (given number : ℕ)
+    (w : Visitor) → m.entries ≡ stay → AreNumbered given (visits_of stay) → number ≡ given + 1
+    → after ≡ insert_entry nat_eq m.entries number w → visits_of after ≡ visits_of stay ++ visit_of number w ∷ []
+seated m after stay given number w kept h next put =
+    let numbered = subst (λ (es : List (ℕ × Visitor)). AreNumbered given (visits_of es)) (sym kept) h in
+    let none = new_number given number m.entries numbered (omega arith) in
+    ap visits_of (put ∙ insert_entry-new nat_eq m number w none) ∙ joined_entries m.entries number w
+    ∙ ap (λ (es : List (ℕ × Visitor)). visits_of es ++ visit_of number w ∷ []) kept
+
+-- the numbers rise up to the next one
+pub seated_numbered : (given number : ℕ) (after stay : List Visit) (v : Visit) → AreNumbered given stay
+    → number ≡ given + 1 → v.number ≡ number → after ≡ stay ++ v ∷ [] → AreNumbered number after
+seated_numbered given number after stay v h next named last =
+    subst (λ (n : ℕ). AreNumbered n after) (sym next)
+    (subst (λ (vs : List Visit). AreNumbered (given + 1) vs) (sym last)
+    (joined_numbered given stay v h (named ∙ next)))

@@ -1,5 +1,5 @@
 -- How presence is stored, and how callers see it.
-use Rattle.std.specs.Prelude.{ℕ, ◌≤◌, List, map}
+use Rattle.std.specs.Prelude.{◌≡◌, ℕ, ◌≤◌, List, length, map}
 use Rattle.presence.specs.Presence.{Presence, AreNumbered}
 use Rattle.presence.specs.declared.presence.TheConstants.{MAX_VISITS}
 use Rattle.presence.specs.declared.presence.Visit.{Visit}
@@ -20,9 +20,11 @@ shown book = record {
   limit = book.limit;
   given = book.given;
   present = visits_of book.visitors.entries;
+  authors = book.authors;
 }
 
--- the numbers rise up to the one given last, which is within the limit
+-- the numbers rise up to the one given last, which is within the limit, and each that was given has an author or none
 pub record IsSound (book : Inside) : Type 0 where
   pub numbered : AreNumbered book.given (visits_of book.visitors.entries)
   pub spent : book.given ≤ MAX_VISITS
+  pub counted : length book.authors ≡ book.given

@@ -1,19 +1,22 @@
 -- Who is present on a pad.
-use Rattle.std.specs.Prelude.{◌≡◌, ℕ, ◌+◌, ◌≤◌, ◌<◌, Bool, true, false, not, ◌&&◌, ◌==◌, nat_le, if◌then◌else◌, Option}
-use Rattle.std.specs.Prelude.{Some, None, List, [], ◌∷◌, ◌++◌, length, map, bytes_eq, MatchResult, Result}
+use Rattle.std.specs.Prelude.{◌≡◌, ℕ, ◌+◌, ◌-◌, ◌≤◌, ◌<◌, Bool, true, false, not, ◌&&◌, ◌==◌, nat_le, nat_lt}
+use Rattle.std.specs.Prelude.{if◌then◌else◌, Option, Some, None, List, [], ◌∷◌, ◌++◌, length, map, bytes_eq}
+use Rattle.std.specs.Prelude.{MatchResult, Result}
 use Rattle.std.specs.List.{AllByRecursion, filter, list_any}
 use Rattle.pad_model.specs.Stamp.{Stamp}
 use Rattle.pad_model.specs.declared.refusal.Refusal.{Refusal}
-use Rattle.pad_model.specs.declared.refusal.Refusal.TheVariants.{Crowded, VisitsSpent, NotJoined}
+use Rattle.pad_model.specs.declared.refusal.Refusal.TheVariants.{Crowded, VisitsSpent, NotJoined, NoVisit}
+use Rattle.presence.specs.Authors.{is_author_at}
 use Rattle.presence.specs.declared.presence.TheConstants.{MAX_VISITS}
 use Rattle.presence.specs.declared.presence.Visit.{Visit}
 
--- how many may be present at once, how many visit numbers were given out, and the visits that are present, in order of
--- joining
+-- how many may be present at once, how many visit numbers were given out, the visits that are present, in order of
+-- joining, and for each number that was given out, whose visit it was, where that is known
 pub record Presence : Type 0 where
   pub limit : ℕ
   pub given : ℕ
   pub present : List Visit
+  pub authors : List (Option (List ℕ))
 
 -- the numbers of the visits are at least 1, rise, and are at most the last one
 abbrev pub AreNumbered : ℕ → List Visit → Type 0
@@ -39,7 +42,16 @@ joined author p =
       given = number;
       present = p.present
           ++ record { number = number; author = author; caret = None } ∷ [];
+      authors = p.authors ++ Some author ∷ [];
     }
+
+-- one more number was given out, for a visit that has ended; its author is known or not
+abbrev pub counted : Option (List ℕ) → Presence → Presence
+counted author p = record p { given = p.given + 1; authors = p.authors ++ author ∷ [] }
+
+-- whether a visit was once given to an author, whether it is present or has ended
+abbrev pub was_given : ℕ → List ℕ → Presence → Bool
+was_given visit author p = nat_lt 0 visit && is_author_at (visit - 1) author p.authors
 
 -- whether a visit has a number
 abbrev pub has_number : ℕ → Visit → Bool
@@ -48,6 +60,15 @@ has_number number visit = number == visit.number
 -- the visits without this one
 abbrev pub left : ℕ → List Visit → List Visit
 left number present = filter (λ visit. not (has_number number visit)) present
+
+-- nobody has this visit any more
+abbrev pub without : ℕ → Presence → Presence
+without visit p = record p { present = left visit p.present }
+
+-- why an author cannot join instead of an old visit, apart from memory
+abbrev pub rejoin_refusal : ℕ → List ℕ → Presence → Option Refusal
+rejoin_refusal instead author p = if not (was_given instead author p) then Some NoVisit
+    else join_refusal (without instead p)
 
 -- the visits with another caret of this one
 abbrev pub with_caret : Option Stamp → ℕ → List Visit → List Visit

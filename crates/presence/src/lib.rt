@@ -3,6 +3,7 @@
 //! It depends on `pad_model` and `indexmap`. The crates above decide whether a session may join.
 #![tactic(auto)]
 
+mod author_list;
 mod presence;
 
 pub use presence::{DEFAULT_PRESENT, MAX_PRESENT, MAX_VISITS, PresenceBook, Visit};

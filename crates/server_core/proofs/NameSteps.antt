@@ -38,7 +38,7 @@ use Rattle.server_core.specs.declared.task.Task.{Task}
 use Rattle.server_core.specs.declared.task.Task.TheVariants.{Resting, Scanning, Listing, Leaving}
 use Rattle.server_core.proofs.Named.{ArePassed, Grows, grows-stay, get-set_same, passed-stay, passed-more, each-filter}
 use Rattle.server_core.proofs.Named.{each-append, each-weaken, some-same}
-use Rattle.server_core.proofs.Own.{IsOwn, Kept, rooms-kept, step-name, step-own}
+use Rattle.server_core.proofs.Own.{IsOwn, Joins, Kept, rooms-kept, step-name, step-own}
 
 -- a room's cell has the pad's name
 abbrev pub RoomStands : List (Option (List ℕ)) → Room → Type 0
@@ -111,13 +111,11 @@ Leaves cells r cell rooms done =
     Grows (names_of cells) (names_of done.2) × AllByRecursion (RoomStands (names_of done.2)) done.1
     × (goes_on done.0 cell (length done.2) ≡ true → RequestStands (names_of done.2) r (cell + 1))
 
-refused-joins : (answer : Result PadReply Refusal) (now visit : ℕ) → answer ≡ Err NoPad →
-    answer ≡ Ok (pad.Joined now visit) → ⊥
-refused-joins answer now visit e f = absurd (cc)
+refused-joins : (answer : Result PadReply Refusal) (visit : ℕ) → answer ≡ Err NoPad → Joins visit answer → ⊥
+refused-joins answer visit e f = subst (Joins visit) e f
 
-elsewhere-joins : (answer : Result PadReply Refusal) (now visit : ℕ) → answer ≡ Ok pad.Elsewhere →
-    answer ≡ Ok (pad.Joined now visit) → ⊥
-elsewhere-joins answer now visit e f = absurd (cc)
+elsewhere-joins : (answer : Result PadReply Refusal) (visit : ℕ) → answer ≡ Ok pad.Elsewhere → Joins visit answer → ⊥
+elsewhere-joins answer visit e f = subst (Joins visit) e f
 
 refused-stops : (refusal : Refusal) (cell count : ℕ) → goes_on (Err refusal) cell count ≡ true → ⊥
 refused-stops refusal cell count e = absurd (cc)
@@ -132,14 +130,14 @@ kept-rooms : (cells : List Machine) (name : List ℕ) (cell : ℕ) (m : Machine)
     AllByRecursion (RoomStands (names_of cells)) new
 kept-rooms cells name cell m answer rooms new e own h (inl same) =
     subst (λ r. AllByRecursion (RoomStands (names_of cells)) r) (sym same) h
-kept-rooms cells name cell m answer rooms new e (inl own) h (inr (inl (now, visit, joined, more))) =
+kept-rooms cells name cell m answer rooms new e (inl own) h (inr (inl (visit, joined, more))) =
     subst (λ r. AllByRecursion (RoomStands (names_of cells)) r) (sym more)
     (each-append (RoomStands (names_of cells)) rooms (record { pad = name; cell = cell; visit = visit }) h
     (name_there cells cell m e ∙ ap Some own))
-kept-rooms cells name cell m answer rooms new e (inr (inl none)) h (inr (inl (now, visit, joined, more))) =
-    absurd (refused-joins answer now visit none joined)
-kept-rooms cells name cell m answer rooms new e (inr (inr other)) h (inr (inl (now, visit, joined, more))) =
-    absurd (elsewhere-joins answer now visit other joined)
+kept-rooms cells name cell m answer rooms new e (inr (inl none)) h (inr (inl (visit, joined, more))) =
+    absurd (refused-joins answer visit none joined)
+kept-rooms cells name cell m answer rooms new e (inr (inr other)) h (inr (inl (visit, joined, more))) =
+    absurd (elsewhere-joins answer visit other joined)
 kept-rooms cells name cell m answer rooms new e own h (inr (inr less)) =
     subst (λ r. AllByRecursion (RoomStands (names_of cells)) r) (sym less)
     (each-filter (RoomStands (names_of cells)) (λ room. Rattle.std.specs.Prelude.not (is_of name room)) rooms h)

@@ -25,7 +25,7 @@ use Rattle.server_core.specs.AtCell.{rooms_after}
 outcome-name : (o : Option Owned) (outcome : Outcome) (m : Machine) → name_of m.owned ≡ name_of o →
     name_of (applied o outcome m).1.owned ≡ name_of o
 outcome-name o (reads answer) m h = h
-outcome-name o (writes done) m h = h
+outcome-name o (writes visit done) m h = h
 outcome-name o (visits done) m h = h
 outcome-name None (grants done) m h = refl
 outcome-name (Some owned) (grants done) m h = refl
@@ -80,16 +80,23 @@ pub step-own : (name : List ℕ) (who : Who) (visit : Option ℕ) (a : Act) (m :
     IsOwn name m (step name who visit a m).0
 step-own name who visit a m = own_by name who visit a m m.owned refl
 
+-- an answer says that a visit has begun
+abbrev pub Joins : ℕ → Result PadReply Refusal → Type 0
+Joins visit (Ok (pad.Joined now given)) = given ≡ visit
+Joins visit (Ok (pad.Rejoined now given made last)) = given ≡ visit
+Joins visit other = ⊥
+
 -- the rooms after an act are unchanged, or one more if the session has joined, or some fewer
 abbrev pub Kept : List ℕ → ℕ → Result PadReply Refusal → List Room → List Room → Type 0
 Kept name cell answer rooms new =
     (new ≡ rooms)
-    ⊎ (((now visit : ℕ) × (answer ≡ Ok (pad.Joined now visit))
+    ⊎ (((visit : ℕ) × Joins visit answer
     × (new ≡ rooms ++ record { pad = name; cell = cell; visit = visit } ∷ []))
     ⊎ (new ≡ filter (λ room. not (is_of name room)) rooms))
 
 pub rooms-kept : (name : List ℕ) (cell : ℕ) (a : Act) (answer : Result PadReply Refusal) (rooms : List Room) →
     Kept name cell answer rooms (rooms_after name cell a answer rooms)
-rooms-kept name cell act.Join (Ok (pad.Joined now visit)) rooms = inr (inl (now, visit, refl, refl))
+rooms-kept name cell act.Join (Ok (pad.Joined now visit)) rooms = inr (inl (visit, refl, refl))
+rooms-kept name cell (act.Rejoin old) (Ok (pad.Rejoined now visit made last)) rooms = inr (inl (visit, refl, refl))
 rooms-kept name cell act.Leave (Ok (pad.Done now)) rooms = inr (inr refl)
 rooms-kept name cell other answer rooms = inl refl

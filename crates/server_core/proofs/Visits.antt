@@ -1,5 +1,5 @@
 -- What a request that ran out of memory leaves at a cell, and in a scan.
-use Rattle.std.proofs.Common.{◌≡◌, inl, inr, ℕ, false, List, Option, Some, Result, Ok, Err, IsOk}
+use Rattle.std.proofs.Common.{◌≡◌, inl, inr, ℕ, true, false, List, Option, Some, Result, Ok, Err, IsOk}
 use Rattle.std.proofs.Common.{length, refl, sym, ap, ap₂, ◌∙◌, subst}
 use Rattle.pad_model.specs.declared.refusal.Refusal.{Refusal}
 use Rattle.pad_model.specs.declared.refusal.Refusal.TheVariants.{Memory}
@@ -16,6 +16,7 @@ use Rattle.pad_core.specs.declared.reply.Reply.{Reply}
 use Rattle.pad_core.specs.declared.request.Request.{Request}
 use Rattle.pad_core.specs.declared.request.Request.TheVariants.{On}
 use Rattle.server_core.specs.Actor.{Actor, visit_on}
+use Rattle.server_core.specs.Rooms.{joins}
 use Rattle.server_core.specs.AtCell.{act_at, passed_on, row_answer, rooms_after}
 use Rattle.server_core.specs.Served.{Acted, RowVisited, TakesRoom, Visited}
 use Rattle.server_core.specs.Steps.{concluded, goes_on, move, scanned}
@@ -26,8 +27,10 @@ use Rattle.server_core.specs.declared.task.Task.{Task}
 use Rattle.server_core.specs.declared.task.Task.TheVariants.{Resting, Scanning}
 
 -- a join takes a room
-pub join_takes : (name : List ℕ) (a : Act) → a ≡ act.Join → TakesRoom (On name a)
-join_takes name a is = subst (λ (x : Act). TakesRoom (On name x)) (sym is) tt
+pub join_takes : (name : List ℕ) (a : Act) → joins a ≡ true → TakesRoom (On name a)
+join_takes name act.Join is = tt
+join_takes name (act.Rejoin old) is = tt
+join_takes name other is = absurd (cc)
 
 passed_ok : (answer : Result PadReply Refusal) → IsOk answer → IsOk (passed_on answer)
 passed_ok (Ok reply) ok = by reply
@@ -41,6 +44,7 @@ passed_ok (Err refusal) ok = absurd (cc)
 rooms_refused : (name : List ℕ) (cell : ℕ) (a : Act) (refusal : Refusal) (rooms : List Room) →
     rooms_after name cell a (Err refusal) rooms ≡ rooms
 rooms_refused name cell act.Join refusal rooms = refl
+rooms_refused name cell (act.Rejoin old) refusal rooms = refl
 rooms_refused name cell act.Leave refusal rooms = refl
 rooms_refused name cell other refusal rooms = refl
 

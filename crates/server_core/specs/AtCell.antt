@@ -35,6 +35,8 @@ passed_on (Err refusal) = Err refusal
 abbrev pub rooms_after : List ℕ → ℕ → Act → Result PadReply Refusal → List Room → List Room
 rooms_after name cell act.Join (Ok (pad.Joined now visit)) rooms =
     rooms ++ record { pad = name; cell = cell; visit = visit } ∷ []
+rooms_after name cell (act.Rejoin old) (Ok (pad.Rejoined now visit made last)) rooms =
+    rooms ++ record { pad = name; cell = cell; visit = visit } ∷ []
 rooms_after name cell act.Leave (Ok (pad.Done now)) rooms = filter (λ room. not (is_of name room))
     rooms
 rooms_after name cell other answer rooms = rooms

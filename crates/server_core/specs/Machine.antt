@@ -5,6 +5,7 @@ use Rattle.std.specs.List.{repeat}
 use Rattle.pad_model.specs.declared.refusal.Refusal.{Refusal}
 use Rattle.pad_model.specs.declared.refusal.Refusal.TheVariants.{ActorsFull}
 use Rattle.sessions.specs.Accounts.{Accounts}
+use Rattle.op_log.specs.Made.{nothing_made}
 use Rattle.pad_core.specs.Machine.{Machine, nobody_present}
 use Rattle.server_core.specs.Actor.{Actor, nobody}
 use Rattle.server_core.specs.Steps.{actor_step}
@@ -31,7 +32,7 @@ unnamed replica present = record {
   held = [];
   presence = nobody_present present;
   clock = 0;
-  times = [];
+  made = nothing_made;
 }
 
 -- a server with a row of cells without names, and without actors

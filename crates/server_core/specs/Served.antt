@@ -33,6 +33,7 @@ use Rattle.server_core.specs.declared.task.Task.TheVariants.{Resting, Scanning, 
 abbrev pub TakesRoom : Request → Type 0
 TakesRoom (Create name) = Unit {0}
 TakesRoom (On name act.Join) = Unit {0}
+TakesRoom (On name (act.Rejoin old)) = Unit {0}
 TakesRoom other = ⊥
 
 -- the act that a request asks for needs memory, the pad has the name, and its answer is not a refusal

@@ -1,11 +1,10 @@
 //! A request at one cell. Memory for a room is allocated before the pad is asked.
-ghost use Rattle.std.specs.Prelude.{◌≡◌, ◌≤◌, IsTrue, IfErr, IfOk};
+ghost use Rattle.std.specs.Prelude.{◌≡◌, ◌≤◌, IsTrue, IfErr, IfOk, true};
 ghost use Rattle.pad_model.specs.Checked.{is_name};
-ghost use Rattle.pad_core.specs.declared.act.Act.TheVariants as Act;
 ghost use Rattle.pad_core.specs.declared.request.Request.TheVariants as request;
 ghost use Rattle.server_core.specs.Actor as actor;
 ghost use Rattle.server_core.specs.AtCell as at_cell;
-ghost use Rattle.server_core.specs.Rooms.{HasRoom, IsAsked};
+ghost use Rattle.server_core.specs.Rooms.{HasRoom, IsAsked, joins};
 ghost use Rattle.server_core.specs.Served.{Visited};
 
 use pad_core::{Act, Claim, Pad, PadEvent, PadReply, Reply, Request};
@@ -79,10 +78,10 @@ fn make_room(
 ) -> Result<Option<Name>, Refusal>
     ensures same { (session.new.who ≡ session.old.who) × (session.new.rooms ≡ session.old.rooms) }
     ensures room { IfOk result (λ name. HasRoom act.now pad.now name session.new.spare) }
-    ensures memory { IfErr result (λ e. (e ≡ Refusal.Memory) × (act.now ≡ Act.Join)) }
+    ensures memory { IfErr result (λ e. (e ≡ Refusal.Memory) × (joins act.now ≡ true)) }
 {
     match act {
-        Act::Join => {
+        Act::Join | Act::Rejoin { .. } => {
             let name = pad.clone()?;
             session.reserve()?;
             Ok(Some(name))
@@ -106,7 +105,8 @@ fn keep_rooms(
         session.old.rooms }
 {
     match (act, answer) {
-        (Act::Join, Ok(PadReply::Joined { visit, .. })) => {
+        (Act::Join, Ok(PadReply::Joined { visit, .. }))
+        | (Act::Rejoin { .. }, Ok(PadReply::Rejoined { visit, .. })) => {
             if let Some(name) = name {
                 session.enter(Room {
                     pad: name,

@@ -15,15 +15,15 @@ use Rattle.shared_pads.specs.LockedPad.{Called, Counts, Departs, Fits, IsKept, I
 use Rattle.shared_pads.specs.Seats.{Answer, Stands, counted, edit_of}
 use Rattle.shared_pads.specs.declared.seat.LastEdit.{LastEdit}
 use Rattle.shared_pads.specs.declared.seat.Seat.{Seat}
-use Rattle.shared_pads.specs.declared.seat.Tally.{Tally}
+use Rattle.shared_pads.specs.declared.seat.SeatTally.{SeatTally}
 use Rattle.shared_pads.proofs.Grows.{Grown, step_grows, visited_grows}
 use Rattle.shared_pads.proofs.Tallies.{kept_on, one_of, one_within, stands_after, stands_on}
 
-abbrev pub kept_of : Machine → ℕ → List Tally → ℕ → ℕ → LockedPad
+abbrev pub kept_of : Machine → ℕ → List SeatTally → ℕ → ℕ → LockedPad
 kept_of pad base ts calls most = record { pad = pad; base = base; tallies = ts; calls = calls; seats = most }
 
 -- one more call of a seat that is known can be counted
-module _ (pad : Machine) (base : ℕ) (ts : List Tally) (calls most room : ℕ) (k : LockedPad) (seat : Seat)
+module _ (pad : Machine) (base : ℕ) (ts : List SeatTally) (calls most room : ℕ) (k : LockedPad) (seat : Seat)
     (view : kept_of pad base ts calls most ≡ k) (known : IsKnown k seat) (kept : IsKept pad.log base ts calls most room) where
   there : IsKnown (kept_of pad base ts calls most) seat
   there = subst (λ k. IsKnown k seat) (sym view) known
@@ -36,14 +36,14 @@ module _ (pad : Machine) (base : ℕ) (ts : List Tally) (calls most room : ℕ) 
   number_low = slice_get_within ts seat.number seat.tally there.1
 
   -- who leaves changes no operation
-  pub departs : (name : List ℕ) (w : Who) (visit : ℕ) (after : Machine) (t : Tally) →
+  pub departs : (name : List ℕ) (w : Who) (visit : ℕ) (after : Machine) (t : SeatTally) →
       after ≡ (step name w (Some visit) act.Leave pad).1 → t ≡ counted 0 None seat.tally →
       IsKept after.log base (slice_set ts seat.number t) (calls + 1) most room
   departs name w visit after t is told =
       let grown = step_grows name w (Some visit) act.Leave pad.owned pad.replica pad.log pad.held pad.presence
-      pad.clock pad.times in
+      pad.clock pad.made in
       subst (λ (m : Machine). IsKept m.log base (slice_set ts seat.number t) (calls + 1) most room) (sym is)
-      (subst (λ (t : Tally). IsKept (step name w (Some visit) act.Leave pad).1.log base (slice_set ts seat.number t)
+      (subst (λ (t : SeatTally). IsKept (step name w (Some visit) act.Leave pad).1.log base (slice_set ts seat.number t)
       (calls + 1) most room) (ap (λ n. counted n None seat.tally) grown.2 ∙ sym told)
       (kept_on pad.log (step name w (Some visit) act.Leave pad).1.log grown.0 base calls most room seat.number ts seat.tally None
       kept there.1 grown.1 tt))
@@ -62,7 +62,7 @@ module _ (pad : Machine) (base : ℕ) (ts : List Tally) (calls most room : ℕ) 
       Fits (seat_after 0 None seat) after
   fits_left who gone after is fits delivered sound =
       let grown = step_grows gone.pad who (Some gone.visit) act.Leave pad.owned pad.replica pad.log pad.held
-      pad.presence pad.clock pad.times in
+      pad.presence pad.clock pad.made in
       let log_is : after.log ≡ pad.log ++ grown.0 = ap (λ (m : Machine). m.log) is ∙ grown.1 in (
         delivered,
         subst (λ log. Stands log seat.tally.last) (sym log_is) (stands_on pad.log grown.0 seat.tally.last fits.1),
@@ -71,13 +71,13 @@ module _ (pad : Machine) (base : ℕ) (ts : List Tally) (calls most room : ℕ) 
       )
 
   -- the session has left the pad, and the seat counted it
-  pub departs_known : (who : Who) (gone : Room) (after : Machine) (t : Tally) → after ≡ left who gone pad →
+  pub departs_known : (who : Who) (gone : Room) (after : Machine) (t : SeatTally) → after ≡ left who gone pad →
       t ≡ counted 0 None seat.tally → IsDelivered pad.log → IsPad pad.owned pad.replica pad.held pad.presence →
       IsDelivered after.log → IsPad after.owned after.replica after.held after.presence →
       Departs seat who gone (let s : Seat = record seat { tally = t } in s)
   departs_known who gone after t is told delivered sound now_delivered now_sound =
       let fits = fits_here delivered sound in
-      subst (λ (t : Tally). Departs seat who gone (let s : Seat = record seat { tally = t } in s)) (sym told)
+      subst (λ (t : SeatTally). Departs seat who gone (let s : Seat = record seat { tally = t } in s)) (sym told)
       (departed seat who gone (seat_after 0 None seat) (inr (
         pad,
         fits,
@@ -87,7 +87,7 @@ module _ (pad : Machine) (base : ℕ) (ts : List Tally) (calls most room : ℕ) 
       )))
 
 -- what a call was, before it is counted
-pub record Visit (pad : Machine) (base : ℕ) (ts : List Tally) (calls most room : ℕ) (k : LockedPad) (seat : Seat) (who : Who)
+pub record Visit (pad : Machine) (base : ℕ) (ts : List SeatTally) (calls most room : ℕ) (k : LockedPad) (seat : Seat) (who : Who)
     (asked : Request) (rooms : List Room) (answer : Answer) (new : List Room) (after : Machine)
     (before now : ℕ) : Type 0 where
   pub view : kept_of pad base ts calls most ≡ k
@@ -97,7 +97,7 @@ pub record Visit (pad : Machine) (base : ℕ) (ts : List Tally) (calls most room
   pub was : before ≡ length pad.log
   pub is : now ≡ length after.log
 
-module _ (pad : Machine) (base : ℕ) (ts : List Tally) (calls most room : ℕ) (k : LockedPad) (seat : Seat) (who : Who)
+module _ (pad : Machine) (base : ℕ) (ts : List SeatTally) (calls most room : ℕ) (k : LockedPad) (seat : Seat) (who : Who)
     (asked : Request)
     (rooms : List Room) (answer : Answer) (new : List Room) (after : Machine) (before now : ℕ)
     (v : Visit pad base ts calls most room k seat who asked rooms answer new after before now) where
@@ -128,14 +128,14 @@ module _ (pad : Machine) (base : ℕ) (ts : List Tally) (calls most room : ℕ) 
   pub here : seat.number < length ts
   here = slice_get_within ts seat.number seat.tally known_here.1
 
-  told : (edit : Option LastEdit) (t : Tally) → edit ≡ edit_of asked answer →
+  told : (edit : Option LastEdit) (t : SeatTally) → edit ≡ edit_of asked answer →
       t ≡ counted (now - before) edit seat.tally → t ≡ counted (length grown.0) (edit_of asked answer) seat.tally
   told edit t edit_is t_is =
       let count : now - before ≡ length grown.0 = let l = longer in let a = v.was in let b = v.is in omega arith in
       t_is ∙ ap₂ (λ n e. counted n e seat.tally) count edit_is
 
   -- the seat and the lock count it
-  pub counts : (edit : Option LastEdit) (t : Tally) → edit ≡ edit_of asked answer →
+  pub counts : (edit : Option LastEdit) (t : SeatTally) → edit ≡ edit_of asked answer →
       t ≡ counted (now - before) edit seat.tally →
       Counts k seat who asked rooms answer (record seat { tally = t }) new
       (kept_of after base (slice_set ts seat.number t) (calls + 1) most)
@@ -146,14 +146,14 @@ module _ (pad : Machine) (base : ℕ) (ts : List Tally) (calls most room : ℕ) 
         longer,
         grown.2,
         v.visited,
-        ap (λ (t : Tally). (let s : Seat = record seat { tally = t } in s))
+        ap (λ (t : SeatTally). (let s : Seat = record seat { tally = t } in s))
             (told edit t edit_is t_is),
         ap (λ t. kept_of after base (slice_set ts seat.number t) (calls + 1) most)
             (told edit t edit_is t_is),
       )
 
   -- and what lies under the lock is sound
-  pub stays_kept : (edit : Option LastEdit) (t : Tally) → edit ≡ edit_of asked answer →
+  pub stays_kept : (edit : Option LastEdit) (t : SeatTally) → edit ≡ edit_of asked answer →
       t ≡ counted (now - before) edit seat.tally → IsKept after.log base (slice_set ts seat.number t) (calls + 1) most room
   stays_kept edit t edit_is t_is =
       subst (λ t. IsKept after.log base (slice_set ts seat.number t) (calls + 1) most room) (sym (told edit t edit_is t_is))
@@ -182,14 +182,14 @@ module _ (pad : Machine) (base : ℕ) (ts : List Tally) (calls most room : ℕ) 
       )
 
   -- it is a step of the machine from a state that fits the seat
-  pub called : (edit : Option LastEdit) (t : Tally) → edit ≡ edit_of asked answer →
+  pub called : (edit : Option LastEdit) (t : SeatTally) → edit ≡ edit_of asked answer →
       t ≡ counted (now - before) edit seat.tally → IsDelivered pad.log →
       IsPad pad.owned pad.replica pad.held pad.presence → IsDelivered after.log →
       IsPad after.owned after.replica after.held after.presence →
       Called seat who asked rooms answer (record seat { tally = t }) new
   called edit t edit_is t_is delivered sound now_delivered now_sound =
       let is : (let s : Seat = record seat { tally = t } in s) ≡ seat_after (length grown.0)
-      (edit_of asked answer) seat = ap (λ (t : Tally). (let s : Seat = record seat { tally = t } in s))
+      (edit_of asked answer) seat = ap (λ (t : SeatTally). (let s : Seat = record seat { tally = t } in s))
       (told edit t edit_is t_is) in
       was_called seat who asked rooms answer (record seat { tally = t }) new (inr (
         pad,

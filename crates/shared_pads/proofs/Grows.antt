@@ -6,6 +6,7 @@ use Rattle.std.proofs.Common.{refl, sym, ap, ◌∙◌, subst, arith, append_ass
 use Rattle.std.proofs.lemmas.Bool.{and_from}
 use Rattle.std.proofs.lemmas.List.{append-nil, length-append}
 use Rattle.std.specs.List.{find}
+use Rattle.op_log.specs.Made.{Made}
 use Rattle.pad_model.specs.Checked.{is_checked}
 use Rattle.pad_model.specs.Log.{same_name}
 use Rattle.holdback.specs.Held.{is_covered, is_held, is_ready}
@@ -289,52 +290,52 @@ session_grows owned (who.Author name) visit act m = at (author_refusal owned.rig
             ≡ author_act owned name (unwrap_or visit 0) act m
         the_act is = rw is refl
 
-abbrev machine : Option Owned → ℕ → List Op → List Op → Presence → ℕ → List ℕ → Machine
-machine o replica log held p clock times = record {
+abbrev machine : Option Owned → ℕ → List Op → List Op → Presence → ℕ → Made → Machine
+machine o replica log held p clock made = record {
   owned = o;
   replica = replica;
   log = log;
   held = held;
   presence = p;
   clock = clock;
-  times = times;
+  made = made;
 }
 
 pub step_grows : (name : List ℕ) (who : Who) (visit : Option ℕ) (act : Act) (o : Option Owned) (replica : ℕ)
-    (log held : List Op) (p : Presence) (clock : ℕ) (times : List ℕ) →
-    GrownBy (effect_of act) (passed_on (step name who visit act (machine o replica log held p clock times)).0) log
-    (step name who visit act (machine o replica log held p clock times)).1.log
-step_grows name who visit act None replica log held p clock times = refused (effect_of act) NoPad log
-step_grows name who visit act (Some owned) replica log held p clock times =
+    (log held : List Op) (p : Presence) (clock : ℕ) (made : Made) →
+    GrownBy (effect_of act) (passed_on (step name who visit act (machine o replica log held p clock made)).0) log
+    (step name who visit act (machine o replica log held p clock made)).1.log
+step_grows name who visit act None replica log held p clock made = refused (effect_of act) NoPad log
+step_grows name who visit act (Some owned) replica log held p clock made =
     either (λ (done : Result PadReply Refusal × Machine). GrownBy (effect_of act) (passed_on done.0) log done.1.log)
-    (not (bytes_eq owned.name name)) (Ok pad.Elsewhere, machine (Some owned) replica log held p clock times) _
-    (elsewhere (effect_of act) log) (session_grows owned who visit act (machine (Some owned) replica log held p clock times))
+    (not (bytes_eq owned.name name)) (Ok pad.Elsewhere, machine (Some owned) replica log held p clock made) _
+    (elsewhere (effect_of act) log) (session_grows owned who visit act (machine (Some owned) replica log held p clock made))
 
 bare : (request : Request) (answer : Answer) (log : List Op) → Tells request answer 0 → edit_of request answer ≡ None →
     Grown request answer log log
 bare request answer log tells none = ([], sym (append-nil log), tells, subst (Stands log) (sym none) tt)
 
 create_grows : (name : List ℕ) (w : Who) (cell : ℕ) (rooms : List Room) (o : Option Owned) (replica : ℕ)
-    (log held : List Op) (p : Presence) (clock : ℕ) (times : List ℕ) →
-    Grown (request.Create name) (create_at w name cell rooms (machine o replica log held p clock times)).0 log
-    (create_at w name cell rooms (machine o replica log held p clock times)).2.log
-create_grows name who.Nobody cell rooms o replica log held p clock times = bare (request.Create name) (Ok None) log refl refl
-create_grows name (who.Peer number version) cell rooms o replica log held p clock times = bare (request.Create name)
+    (log held : List Op) (p : Presence) (clock : ℕ) (made : Made) →
+    Grown (request.Create name) (create_at w name cell rooms (machine o replica log held p clock made)).0 log
+    (create_at w name cell rooms (machine o replica log held p clock made)).2.log
+create_grows name who.Nobody cell rooms o replica log held p clock made = bare (request.Create name) (Ok None) log refl refl
+create_grows name (who.Peer number version) cell rooms o replica log held p clock made = bare (request.Create name)
     (Ok None) log refl refl
-create_grows name (who.Author owner) cell rooms None replica log held p clock times = bare (request.Create name)
+create_grows name (who.Author owner) cell rooms None replica log held p clock made = bare (request.Create name)
     (Ok None) log refl refl
-create_grows name (who.Author owner) cell rooms (Some owned) replica log held p clock times =
+create_grows name (who.Author owner) cell rooms (Some owned) replica log held p clock made =
     either (λ (done : Result Claim Refusal × Machine). Grown (request.Create name) (created name cell rooms done).0 log
     (created name cell rooms done).2.log) (bytes_eq owned.name name)
-    (Ok event.Exists, machine (Some owned) replica log held p clock times) (Ok event.Other, machine (Some owned) replica log held p clock times)
+    (Ok event.Exists, machine (Some owned) replica log held p clock made) (Ok event.Other, machine (Some owned) replica log held p clock made)
     (bare (request.Create name) (Ok None) log refl refl) (bare (request.Create name) (Ok None) log refl refl)
 
 request_grows : (w : Who) (request : Request) (cell : ℕ) (rooms : List Room) (m : Machine) →
     Grown request (request_at w request cell rooms m).0 m.log (request_at w request cell rooms m).2.log
 request_grows w (request.On name act) cell rooms m = step_grows name w (visit_on name rooms) act m.owned m.replica m.log
-    m.held m.presence m.clock m.times
+    m.held m.presence m.clock m.made
 request_grows w (request.Create name) cell rooms m =
-    create_grows name w cell rooms m.owned m.replica m.log m.held m.presence m.clock m.times
+    create_grows name w cell rooms m.owned m.replica m.log m.held m.presence m.clock m.made
 request_grows w request.Pads cell rooms m = bare request.Pads (Ok None) m.log refl refl
 request_grows w (request.People authors) cell rooms m = bare (request.People authors) (Ok None) m.log refl refl
 request_grows w (request.Hello name token) cell rooms m = bare (request.Hello name token) (Ok None) m.log refl refl

@@ -2,6 +2,7 @@
 use Rattle.std.proofs.Common.{◌≡◌, ℕ, List, [], Option, None, Some, Result, Ok, Err, sym}
 use Rattle.std.specs.Option.{IfSome}
 use Rattle.std.specs.Result.{IfOk}
+use Rattle.op_log.specs.Made.{nothing_made}
 use Rattle.pad_model.specs.declared.op.Op.{Op}
 use Rattle.pad_model.specs.declared.refusal.Refusal.{Refusal}
 use Rattle.presence.specs.Presence.{Presence}
@@ -16,6 +17,6 @@ pub named_by : (cell : ℕ) (o : Option Owned) (replica : ℕ) (log held : List 
     IfOk result (λ name. name ≡ name_of o) → IfOk result (λ name. IfSome name (IsNamed cell))
 named_by cell o replica log held p (Ok (Some name)) can is =
     named cell name
-    (record { owned = o; replica = replica; log = log; held = held; presence = p; clock = 0; times = [] }) can (sym is)
+    (record { owned = o; replica = replica; log = log; held = held; presence = p; clock = 0; made = nothing_made }) can (sym is)
 named_by cell o replica log held p (Ok None) can is = tt
 named_by cell o replica log held p (Err refusal) can is = tt

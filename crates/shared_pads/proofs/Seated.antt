@@ -12,12 +12,12 @@ use Rattle.server_core.proofs.Named.{get-set_other}
 use Rattle.shared_pads.specs.LockedPad.{AreAll, IsKept, IsOf, LockedPad}
 use Rattle.shared_pads.specs.Seats.{are_apart}
 use Rattle.shared_pads.specs.declared.seat.Seat.{Seat}
-use Rattle.shared_pads.specs.declared.seat.Tally.{Tally}
+use Rattle.shared_pads.specs.declared.seat.SeatTally.{SeatTally}
 use Rattle.shared_pads.specs.declared.sums.Sums.{Sums}
 use Rattle.shared_pads.proofs.Calls.{kept_of}
 
 -- each seat's number is the place of what is counted of it
-abbrev Places : (Tally → ℕ) → List ℕ → List Seat → Type 0
+abbrev Places : (SeatTally → ℕ) → List ℕ → List Seat → Type 0
 Places f counts seats = AllByRecursion (λ seat. slice_get counts seat.number ≡ Some (f seat.tally)) seats
 
 neither : (x y : Bool) → (x || y) ≡ false → (x ≡ false) × (y ≡ false)
@@ -28,7 +28,7 @@ true_false : true ≡ false → ⊥
 true_false e = cc
 
 -- a place that is none of theirs may be set
-other_place : (f : Tally → ℕ) (counts : List ℕ) (n : ℕ) (seats : List Seat) → list_any (λ seat. seat.number == n) seats
+other_place : (f : SeatTally → ℕ) (counts : List ℕ) (n : ℕ) (seats : List Seat) → list_any (λ seat. seat.number == n) seats
     ≡ false → Places f counts seats → Places f (slice_set counts n 0) seats
 other_place f counts n [] apart h = tt
 other_place f counts n (seat ∷ seats) apart h =
@@ -38,7 +38,7 @@ other_place f counts n (seat ∷ seats) apart h =
     )
 
 -- seats with places of their own add no more than all places
-within : (f : Tally → ℕ) (seats : List Seat) (counts : List ℕ) → are_apart seats ≡ true → Places f counts seats →
+within : (f : SeatTally → ℕ) (seats : List Seat) (counts : List ℕ) → are_apart seats ≡ true → Places f counts seats →
     sum_by (λ seat. f seat.tally) seats ≤ sum_by (λ n. n) counts
 within f [] counts apart h = omega arith
 within f (seat ∷ seats) counts apart h =
@@ -51,13 +51,13 @@ within f (seat ∷ seats) counts apart h =
     get_or_from_slice_get counts seat.number (f seat.tally) 0 h.0 in
     omega arith
 
-placed : (f : Tally → ℕ) (cell : ℕ) (k : LockedPad) (seats : List Seat) → AllByRecursion (IsOf cell k) seats →
+placed : (f : SeatTally → ℕ) (cell : ℕ) (k : LockedPad) (seats : List Seat) → AllByRecursion (IsOf cell k) seats →
     Places f (map f k.tallies) seats
 placed f cell k [] h = tt
 placed f cell k (seat ∷ seats) h =
     (slice_get-map f k.tallies seat.number ∙ ap (option_map f) h.0.1, placed f cell k seats h.1)
 
-no_more : (f : Tally → ℕ) (cell : ℕ) (k : LockedPad) (seats : List Seat) → AreAll cell k seats →
+no_more : (f : SeatTally → ℕ) (cell : ℕ) (k : LockedPad) (seats : List Seat) → AreAll cell k seats →
     sum_by (λ seat. f seat.tally) seats ≤ sum_by f k.tallies
 no_more f cell k seats all = let least = within f seats (map f k.tallies) all.1 (placed f cell k seats all.2) in let is =
     sum-map f k.tallies in omega arith
@@ -90,7 +90,7 @@ as_many m (x ∷ xs) (y ∷ ys) e =
 
 -- as many seats as there are places, each with its own, add just what the places do: they add no more of what each has,
 -- and no more of what each lacks
-same_sum : (f : Tally → ℕ) (cell : ℕ) (k : LockedPad) (seats : List Seat) → AreAll cell k seats →
+same_sum : (f : SeatTally → ℕ) (cell : ℕ) (k : LockedPad) (seats : List Seat) → AreAll cell k seats →
     sum_by (λ seat. f seat.tally) seats ≡ sum_by f k.tallies
 same_sum f cell k seats all =
     let has = no_more f cell k seats all in
@@ -102,7 +102,7 @@ same_sum f cell k seats all =
     omega arith
 
 -- so they have made the revision of the pad, and all calls
-pub all_made : (pad : Machine) (base : ℕ) (ts : List Tally) (calls most room cell : ℕ) (k : LockedPad) (seats : List Seat) →
+pub all_made : (pad : Machine) (base : ℕ) (ts : List SeatTally) (calls most room cell : ℕ) (k : LockedPad) (seats : List Seat) →
     kept_of pad base ts calls most ≡ k → IsKept pad.log base ts calls most room → AreAll cell k seats →
     (length pad.log ≡ base + sum_by (λ seat. seat.tally.operations) seats)
     × (calls ≡ sum_by (λ seat. seat.tally.calls) seats)

@@ -15,7 +15,7 @@ use Rattle.shared_pads.specs.LockedPad.{HasClosed, IsClosed, IsKept, IsOf, Locke
 use Rattle.shared_pads.specs.Seats.{Stands, counted, last_after, uncounted}
 use Rattle.shared_pads.specs.declared.seat.LastEdit.{LastEdit}
 use Rattle.shared_pads.specs.declared.seat.Seat.{Seat}
-use Rattle.shared_pads.specs.declared.seat.Tally.{Tally}
+use Rattle.shared_pads.specs.declared.seat.SeatTally.{SeatTally}
 use Rattle.shared_pads.specs.declared.sums.Sums.{Sums}
 
 -- what is in a list stays there when more is added at its end
@@ -46,32 +46,32 @@ pub stands_on : (log more : List Op) (edit : Option LastEdit) → Stands log edi
 stands_on log more None h = tt
 stands_on log more (Some edit) h = standing_at edit.name edit.rev log more h
 
-all_stand : (log more : List Op) (ts : List Tally) → AllByRecursion (λ t. Stands log t.last) ts →
+all_stand : (log more : List Op) (ts : List SeatTally) → AllByRecursion (λ t. Stands log t.last) ts →
     AllByRecursion (λ t. Stands (log ++ more) t.last) ts
 all_stand log more [] h = tt
 all_stand log more (t ∷ ts) h = (stands_on log more t.last h.0, all_stand log more ts h.1)
 
-all_set : (P : Tally → Type 0) (ts : List Tally) (i : ℕ) (t : Tally) → AllByRecursion P ts → P t →
+all_set : (P : SeatTally → Type 0) (ts : List SeatTally) (i : ℕ) (t : SeatTally) → AllByRecursion P ts → P t →
     AllByRecursion P (slice_set ts i t)
 all_set P [] i t h p = tt
 all_set P (x ∷ ts) zero t h p = (p, h.1)
 all_set P (x ∷ ts) (suc i) t h p = (h.0, all_set P ts i t h.1 p)
 
 -- what holds of each holds of one
-pub one_of : (P : Tally → Type 0) (ts : List Tally) (i : ℕ) (t : Tally) → AllByRecursion P ts → slice_get ts i
+pub one_of : (P : SeatTally → Type 0) (ts : List SeatTally) (i : ℕ) (t : SeatTally) → AllByRecursion P ts → slice_get ts i
     ≡ Some t → P t
 one_of P [] i t h e = absurd (none_some t e)
   where
-    none_some : (t : Tally) → (let o : Option Tally = None in o) ≡ Some t → ⊥
+    none_some : (t : SeatTally) → (let o : Option SeatTally = None in o) ≡ Some t → ⊥
     none_some t q = cc
 one_of P (x ∷ ts) zero t h e = subst P (same x t e) h.0
   where
-    same : (x t : Tally) → Some x ≡ Some t → x ≡ t
+    same : (x t : SeatTally) → Some x ≡ Some t → x ≡ t
     same x t q = cc
 one_of P (x ∷ ts) (suc i) t h e = one_of P ts i t h.1 e
 
 -- one of a list adds no more than all
-pub one_within : (f : Tally → ℕ) (ts : List Tally) (i : ℕ) (t : Tally) → f uncounted ≡ 0 → slice_get ts i ≡ Some t →
+pub one_within : (f : SeatTally → ℕ) (ts : List SeatTally) (i : ℕ) (t : SeatTally) → f uncounted ≡ 0 → slice_get ts i ≡ Some t →
     f t ≤ sum_by f ts
 one_within f ts i t none e =
     let sum = sum_by-set f ts i uncounted t (slice_get_within ts i t e) in
@@ -79,7 +79,7 @@ one_within f ts i t none e =
     omega arith
 
 -- the sum after one was set
-sum_after : (f : Tally → ℕ) (ts : List Tally) (i : ℕ) (t new : Tally) (n : ℕ) → slice_get ts i ≡ Some t → f new ≡ f t
+sum_after : (f : SeatTally → ℕ) (ts : List SeatTally) (i : ℕ) (t new : SeatTally) (n : ℕ) → slice_get ts i ≡ Some t → f new ≡ f t
     + n → sum_by f (slice_set ts i new) ≡ sum_by f ts + n
 sum_after f ts i t new n e grown =
     let sum = sum_by-set f ts i new t (slice_get_within ts i t e) in
@@ -92,7 +92,7 @@ stands_after log None before h b = b
 stands_after log (Some edit) before h b = h
 
 -- what is kept under the lock after a call
-pub kept_on : (old new more : List Op) (base calls most room i : ℕ) (ts : List Tally) (t : Tally) (edit : Option LastEdit) →
+pub kept_on : (old new more : List Op) (base calls most room i : ℕ) (ts : List SeatTally) (t : SeatTally) (edit : Option LastEdit) →
     IsKept old base ts calls most room → slice_get ts i ≡ Some t → new ≡ old ++ more → Stands new edit →
     IsKept new base (slice_set ts i (counted (length more) edit t)) (calls + 1) most room
 kept_on old new more base calls most room i ts t edit kept e grown stands = record {

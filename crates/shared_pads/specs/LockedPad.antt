@@ -18,7 +18,7 @@ use Rattle.shared_pads.specs.Seats.{Answer, Stands, Tells, are_apart, counted, e
 use Rattle.shared_pads.specs.declared.seat.LastEdit.{LastEdit}
 use Rattle.shared_pads.specs.declared.seat.TheConstants.{MAX_SEATS}
 use Rattle.shared_pads.specs.declared.seat.Seat.{Seat}
-use Rattle.shared_pads.specs.declared.seat.Tally.{Tally}
+use Rattle.shared_pads.specs.declared.seat.SeatTally.{SeatTally}
 use Rattle.shared_pads.specs.declared.sums.Sums.{Sums}
 
 -- a pad, the revision that it had when it came under its lock, the tally of each seat by its number, how many calls all
@@ -26,13 +26,13 @@ use Rattle.shared_pads.specs.declared.sums.Sums.{Sums}
 pub record LockedPad : Type 0 where
   pub pad : Machine
   pub base : ℕ
-  pub tallies : List Tally
+  pub tallies : List SeatTally
   pub calls : ℕ
   pub seats : ℕ
 
 -- whenever the lock is free: the revision is the base and the operations of all seats, each last edit is in the log,
 -- the calls are those of all seats, and there is room for the tallies of as many seats as may be made
-pub record IsKept (log : List Op) (base : ℕ) (tallies : List Tally) (calls seats room : ℕ) : Type 0
+pub record IsKept (log : List Op) (base : ℕ) (tallies : List SeatTally) (calls seats room : ℕ) : Type 0
   where
     pub revision : length log ≡ base + sum_by (λ t. t.operations) tallies
     pub standing : AllByRecursion (λ t. Stands log t.last) tallies

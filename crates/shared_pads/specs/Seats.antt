@@ -19,7 +19,7 @@ use Rattle.shared_pads.specs.declared.seat.Effect.{Effect}
 use Rattle.shared_pads.specs.declared.seat.Effect.TheVariants.{Makes, Takes, Keeps}
 use Rattle.shared_pads.specs.declared.seat.LastEdit.{LastEdit}
 use Rattle.shared_pads.specs.declared.seat.Seat.{Seat}
-use Rattle.shared_pads.specs.declared.seat.Tally.{Tally}
+use Rattle.shared_pads.specs.declared.seat.SeatTally.{SeatTally}
 
 -- what a cell answers, or nothing if its pad has another name
 abbrev pub Answer : Type 0
@@ -59,11 +59,11 @@ last_after None before = before
 last_after (Some edit) before = Some edit
 
 -- no call was made yet
-abbrev pub uncounted : Tally
+abbrev pub uncounted : SeatTally
 uncounted = record { calls = 0; operations = 0; last = None }
 
 -- a tally with one more call, which delivered this many operations and may have been an edit
-abbrev pub counted : ℕ → Option LastEdit → Tally → Tally
+abbrev pub counted : ℕ → Option LastEdit → SeatTally → SeatTally
 counted more edit t = record {
   calls = t.calls + 1;
   operations = t.operations + more;

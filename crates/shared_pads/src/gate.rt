@@ -24,6 +24,8 @@ pub struct Answered<'a> {
     pub made: u64,
     /// The time that these have, in milliseconds since 1970.
     pub at: u64,
+    /// The visit in which the last operation of the pad was made, or 0: if the request delivered any, that of these.
+    pub visit: u64,
     /// These operations, in their order, or an error if memory ran out while they were read. A gate that reads
     /// none gets none.
     pub more: &'a Result<Items<Op>, Refusal>,

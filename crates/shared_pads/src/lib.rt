@@ -11,5 +11,5 @@ mod sums;
 
 pub use gate::{Answered, Gate, Open};
 pub use locked_pad::{LockedPad, Untold};
-pub use seat::{LastEdit, MAX_SEATS, Seat, Tally};
+pub use seat::{LastEdit, MAX_SEATS, Seat, SeatTally};
 pub use shared_pad::{Closed, SharedPad};

@@ -6,10 +6,11 @@ ghost use Rattle.pad_core.specs.Listing.{listing};
 ghost use Rattle.pad_core.specs.Machine.{name_of};
 ghost use Rattle.pad_model.specs.Checked.{is_name};
 ghost use Rattle.shared_pads.specs.LockedPad.{AreAll, Called, CanBe, Counts, Departs, IsClosed, IsKnown, IsListing, IsOf, kept_after, left, next_seat, one_more, seat_after, ticked, unseated};
+ghost use Rattle.op_log.specs.Made.{last_visit};
 ghost use Rattle.pad_core.specs.Times.{time_now};
 ghost use Rattle.shared_pads.specs.Seats.{Stands, Tells};
 
-use crate::seat::{MAX_SEATS, Seat, Tally, edit_of};
+use crate::seat::{MAX_SEATS, Seat, SeatTally, edit_of};
 use crate::sums::{Sums, are_apart, sums_of};
 use pad_core::{Listed, Pad, Reply, Request};
 use pad_model::{Items, Name, Op, Refusal, Sequence, Who};
@@ -31,7 +32,7 @@ pub struct Untold {
 pub struct LockedPad<S: Sequence> {
     pad: Pad<S>,
     base: u64,
-    tallies: Vec<Tally>,
+    tallies: Vec<SeatTally>,
     calls: u64,
     /// The most seats that it makes.
     seats: u32,
@@ -90,12 +91,12 @@ impl<S: Sequence> LockedPad<S> {
         if number >= self.seats as usize {
             return Err(Refusal::SeatsGone);
         }
-        self.tallies.push_reserved(Tally::new());
+        self.tallies.push_reserved(SeatTally::new());
         Ok(Seat {
             cell,
             number: number as u32,
             base: self.base,
-            tally: Tally::new(),
+            tally: SeatTally::new(),
         })
     }
 
@@ -207,9 +208,16 @@ impl<S: Sequence> LockedPad<S> {
 
     /// The time that an operation gets if it is delivered now.
     pub fn time_now(&self) -> u64
-        ensures { result ≡ time_now self.now.pad.clock self.now.pad.times }
+        ensures { result ≡ time_now self.now.pad.clock self.now.pad.made.times }
     {
         self.pad.time_now()
+    }
+
+    /// The visit in which the last operation was made, or 0.
+    pub fn last_visit(&self) -> u64
+        ensures { result ≡ last_visit self.now.pad.made }
+    {
+        self.pad.last_visit()
     }
 
     /// The revision that the last operation made.

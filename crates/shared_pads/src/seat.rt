@@ -18,7 +18,7 @@ pub struct LastEdit {
 
 /// The counts of the calls of one seat.
 #[derive(Clone, Copy, PartialEq, Eq)]
-pub struct Tally {
+pub struct SeatTally {
     /// The calls that were made.
     pub calls: u64,
     /// The operations that they delivered.
@@ -27,12 +27,12 @@ pub struct Tally {
     pub last: Option<LastEdit>,
 }
 
-impl Tally {
+impl SeatTally {
     /// No call was made yet.
-    pub fn new() -> Tally
+    pub fn new() -> SeatTally
         ensures { result ≡ uncounted }
     {
-        Tally {
+        SeatTally {
             calls: 0,
             operations: 0,
             last: None,
@@ -40,19 +40,19 @@ impl Tally {
     }
 
     /// Returns true if it equals the other.
-    pub fn is_same(self, other: Tally) -> bool
+    pub fn is_same(self, other: SeatTally) -> bool
         ensures { IsTrue result ↔ (self ≡ other) }
     {
         self == other
     }
 
     /// The tally with one more call, which delivered this many operations and may have been an edit.
-    pub fn with_call(self, operations: u64, edit: Option<LastEdit>) -> Tally
+    pub fn with_call(self, operations: u64, edit: Option<LastEdit>) -> SeatTally
         requires calls { self.calls < u64.MAX }
         requires operations { self.operations + operations ≤ u64.MAX }
         ensures { result ≡ counted operations edit self }
     {
-        Tally {
+        SeatTally {
             calls: self.calls + 1,
             operations: self.operations + operations,
             last: last_after(edit, self.last),
@@ -60,11 +60,11 @@ impl Tally {
     }
 
     /// The tally with one more call, by which a session left.
-    pub fn with_departure(self) -> Tally
+    pub fn with_departure(self) -> SeatTally
         requires { self.calls < u64.MAX }
         ensures { result ≡ counted 0 None self }
     {
-        Tally {
+        SeatTally {
             calls: self.calls + 1,
             ..self
         }
@@ -77,7 +77,7 @@ pub struct Seat {
     pub(crate) cell: u32,
     pub(crate) number: u32,
     pub(crate) base: u64,
-    pub(crate) tally: Tally,
+    pub(crate) tally: SeatTally,
 }
 
 impl Seat {
@@ -89,7 +89,7 @@ impl Seat {
     }
 
     /// Returns the counts of its calls.
-    pub fn tally(&self) -> Tally
+    pub fn tally(&self) -> SeatTally
         ensures { result ≡ self.now.tally }
     {
         self.tally

@@ -111,6 +111,7 @@ impl<S: Sequence> SharedPad<S> {
             from: before,
             made: kept.revision().saturating_sub(before),
             at,
+            visit: kept.last_visit(),
             more: &more,
         };
         gate.answered(alloc, answered, &*kept);

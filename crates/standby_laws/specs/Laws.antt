@@ -1,5 +1,5 @@
 -- The statements of the laws of a main server and its standby.
-use Rattle.std.specs.Prelude.{◌≡◌, ℕ, ◌≤◌, ◌<◌, List, [], ◌∷◌, ◌++◌, length, take, Ok}
+use Rattle.std.specs.Prelude.{◌≡◌, ℕ, ◌≤◌, ◌<◌, Bool, List, [], ◌∷◌, ◌++◌, length, take, Ok}
 use Rattle.pad_core.specs.Machine.{Machine}
 use Rattle.store_records.specs.Laws.{Had, Life, restarted_by}
 use Rattle.store_records.specs.declared.kept_record.Record.{Record}
@@ -57,7 +57,7 @@ pub record IsServed (number most : ℕ) (name bytes : List ℕ) (texts : List (L
   pub pad : read.pad ≡ restarted_by number most had
   pub whole : read.whole ≡ length (file_of texts)
   pub found : pad_read number most name bytes ≡ if_named name read
-  pub taken : (owner : List ℕ) (more : List Record) → records ≡ Named name owner ∷ more →
+  pub taken : (owner : List ℕ) (visits : Bool) (more : List Record) → records ≡ Named name owner visits ∷ more →
       pad_read number most name bytes ≡ Ok read
 
 -- the pad had a state after the records of the main server's first lines, up to some number, with every confirmed line

@@ -16,5 +16,5 @@ abbrev pub IsKept : Answered → Type 0
 IsKept told =
     NothingSettles
     ⊎ MatchResult told.more.now
-    (λ items. AreQueued told.cell (records_of told.who.now told.request.now told.at told.answer.now items))
+    (λ items. AreQueued told.cell (records_of told.who.now told.request.now told.at told.visit told.answer.now items))
     (λ e. NothingSettles)

@@ -133,8 +133,15 @@ impl Keeper {
             return Err(Unnoted::Memory);
         };
         let more = more.as_slice();
-        let Ok(records) = records_of(alloc, told.who, told.request, told.at, told.answer, more)
-        else {
+        let Ok(records) = records_of(
+            alloc,
+            told.who,
+            told.request,
+            told.at,
+            told.visit,
+            told.answer,
+            more,
+        ) else {
             return Err(Unnoted::Memory);
         };
         if records.is_empty() {

@@ -1,5 +1,5 @@
 -- What a crash leaves of a pad's file leads to a restarted state that the pad had.
-use Rattle.std.proofs.Common.{◌≡◌, ℕ, zero, suc, ◌+◌, ◌≤◌, List, [], ◌∷◌, ◌++◌, length, take, fold}
+use Rattle.std.proofs.Common.{◌≡◌, ℕ, zero, suc, ◌+◌, ◌≤◌, Bool, List, [], ◌∷◌, ◌++◌, length, take, fold}
 use Rattle.std.proofs.Common.{bytes_eq, Option, Some, Result, Ok, Err, refl, sym, ap, ◌∙◌, subst, arith, append-nil}
 use Rattle.std.proofs.Common.{append_assoc}
 use Rattle.std.specs.List.{AllByRecursion, list_any}
@@ -267,7 +267,7 @@ abbrev Again : ℕ → ℕ → List ℕ → List ℕ → List StoreLine → List
 Again number most name bytes says texts had =
     (read : Read) × (read.pad ≡ restarted_by number most had) × (read.whole ≡ length (file_of texts))
     × (file_read number most name (whole_lines bytes) ≡ Ok read) × (pad_read number most name bytes ≡ if_named name read)
-    × ((owner : List ℕ) (more : List Record) → records_in says ≡ Named name owner ∷ more → pad_read number most name bytes
+    × ((owner : List ℕ) (visits : Bool) (more : List Record) → records_in says ≡ Named name owner visits ∷ more → pad_read number most name bytes
     ≡ Ok read)
     × (records_in says ≡ [] → pad_read number most name bytes ≡ Err Empty)
     × Life number most (records_in says) read.pad × IsFile name says
@@ -298,8 +298,8 @@ read_again number most name bytes header says text texts rest had is called are 
       whole,
       ap (file_read number most name) lines ∙ found,
       named_read number most name bytes read (ap (file_read number most name) lines ∙ found),
-      λ owner more first. named_read number most name bytes read (ap (file_read number most name) lines ∙ found)
-          ∙ is_taken number most name owner (records_in says) more read (leads ∙ ap Ok (sym pad)) first,
+      λ owner visits more first. named_read number most name bytes read (ap (file_read number most name) lines ∙ found)
+          ∙ is_taken number most name owner visits (records_in says) more read (leads ∙ ap Ok (sym pad)) first,
       λ none_left. named_read number most name bytes read (ap (file_read number most name) lines ∙ found)
           ∙ is_empty number most name (records_in says) read (leads ∙ ap Ok (sym pad)) none_left,
       subst (Life number most (records_in says)) (sym pad) life,

@@ -8,7 +8,8 @@ use Rattle.pad_model.specs.declared.refusal.Refusal.{Refusal}
 use Rattle.pad_model.specs.declared.refusal.Refusal.TheVariants.{BadName}
 use Rattle.rights.specs.Rights.{can_have}
 use Rattle.pad_core.specs.Machine.{Machine, claim, name_of}
-use Rattle.pad_core.specs.Restart.{ended, restore_claim}
+use Rattle.presence.specs.Presence.{counted}
+use Rattle.pad_core.specs.Restart.{author_if, restore_claim}
 use Rattle.pad_core.specs.declared.owned.Owned.{Owned}
 use Rattle.store_records.specs.Records.{rebuilt, replay, replay_all, replayed, unless_refused, unnamed}
 use Rattle.store_records.specs.declared.kept_record.Record.{Record}
@@ -36,7 +37,7 @@ owning o m = record m { owned = o }
 -- one more record keeps the name
 one_stays : (kept : Record) (owned : Owned) (m : Machine) →
     name_of (replay kept (owning (Some owned) m)).1.owned ≡ Some owned.name
-one_stays (Named name owner) owned m = refl
+one_stays (Named name owner visits) owned m = refl
 one_stays (Granted grantee right) owned m =
     either (λ (done : Result (Unit {0}) Refusal × Machine). name_of done.1.owned ≡ Some owned.name)
     (not (can_have grantee right)) (Err BadName, owning (Some owned) m) _ refl refl
@@ -46,8 +47,8 @@ one_stays (Handed author) owned m =
 one_stays (Marked this) owned m =
     either (λ (done : Result (Unit {0}) Refusal × Machine). name_of done.1.owned ≡ Some owned.name)
     (not (is_name this.author)) (Err BadName, owning (Some owned) m) _ refl refl
-one_stays Visited owned m = refl
-one_stays (Delivered at op) owned m = refl
+one_stays (Visited author) owned m = refl
+one_stays (Delivered at visit op) owned m = refl
 
 none_is_some : (n : List ℕ) → (let o : Option (List ℕ) = None in o) ≡ Some n → ⊥
 none_is_some n h = cc
@@ -73,35 +74,34 @@ named_stays (kept ∷ records) m after n named leads =
     at (Err e, next) is ok on = absurd (err_is_no_ok e after (sym (refused_stays records e) ∙ ok))
 
 -- records lead to a pad with this name, if the first names it so
-named_first : (number most : ℕ) (name owner : List ℕ) (more : List Record) (after : Machine) →
-    rebuilt number most (Named name owner ∷ more) ≡ Ok after → name_of after.owned ≡ Some name
-named_first number most name owner more after leads = at (is_name name && is_name owner) refl
+named_first : (number most : ℕ) (name owner : List ℕ) (visits : Bool) (more : List Record) (after : Machine) →
+    rebuilt number most (Named name owner visits ∷ more) ≡ Ok after → name_of after.owned ≡ Some name
+named_first number most name owner visits more after leads = at (is_name name && is_name owner) refl
   where
     given : Machine
     given = record (unnamed number most) {
       owned = (claim name owner (unnamed number most)).1.owned;
-      presence = ended (claim name owner
-          (unnamed number most)).1.presence;
+      presence = counted (author_if visits owner) (unnamed number most).presence;
     }
 
     at : (b : Bool) → (is_name name && is_name owner) ≡ b → name_of after.owned ≡ Some name
     at true is = named_stays more given after name refl (sym (ap (λ (done : Result (Unit {0}) Refusal × Machine). fold
         replayed (unless_refused done) more) (claimed is)) ∙ leads)
       where
-        claimed : (is_name name && is_name owner) ≡ true → restore_claim name owner (unnamed number most) ≡ (Ok tt, given)
+        claimed : (is_name name && is_name owner) ≡ true → restore_claim name owner visits (unnamed number most) ≡ (Ok tt, given)
         claimed is = rw is refl
     at false is = absurd (err_is_no_ok BadName after (sym (refused_stays more BadName) ∙ (sym
         (ap (λ (done : Result (Unit {0}) Refusal × Machine). fold replayed (unless_refused done) more) (refused is)) ∙ leads)))
       where
-        refused : (is_name name && is_name owner) ≡ false → restore_claim name owner (unnamed number most)
+        refused : (is_name name && is_name owner) ≡ false → restore_claim name owner visits (unnamed number most)
             ≡ (Err BadName, unnamed number most)
         refused is = rw is refl
 
 -- so the file of the pad with this name is taken
-pub is_taken : (number most : ℕ) (name owner : List ℕ) (records more : List Record) (read : Read) →
-    rebuilt number most records ≡ Ok read.pad → records ≡ Named name owner ∷ more → if_named name read ≡ Ok read
-is_taken number most name owner records more read leads is =
-    ap (if_called name read) (named_first number most name owner more read.pad
+pub is_taken : (number most : ℕ) (name owner : List ℕ) (visits : Bool) (records more : List Record) (read : Read) →
+    rebuilt number most records ≡ Ok read.pad → records ≡ Named name owner visits ∷ more → if_named name read ≡ Ok read
+is_taken number most name owner visits records more read leads is =
+    ap (if_called name read) (named_first number most name owner visits more read.pad
     (sym (ap (rebuilt number most) is) ∙ leads))
     ∙ cond-true (bytes_eq name name) (Ok read) (Err OtherPad) ((bytes_eq-Decides name name).1 refl)
 

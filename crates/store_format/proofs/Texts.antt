@@ -51,8 +51,10 @@ op_has_no_float op = at (has_float (op_data op)) refl
         there = rw is refl
 
 pub record_has_no_float : (at : ℕ) (together : Bool) (kept : Record) → has_float (record_data at together kept) ≡ false
-record_has_no_float at true (Named name owner) = refl
-record_has_no_float at false (Named name owner) = refl
+record_has_no_float at true (Named name owner true) = refl
+record_has_no_float at true (Named name owner false) = refl
+record_has_no_float at false (Named name owner true) = refl
+record_has_no_float at false (Named name owner false) = refl
 record_has_no_float at true (Granted (Author name) given) = refl
 record_has_no_float at true (Granted Everyone given) = refl
 record_has_no_float at false (Granted (Author name) given) = refl
@@ -61,14 +63,18 @@ record_has_no_float at true (Handed author) = refl
 record_has_no_float at false (Handed author) = refl
 record_has_no_float at true (Marked named) = refl
 record_has_no_float at false (Marked named) = refl
-record_has_no_float at true Visited = refl
-record_has_no_float at false Visited = refl
-record_has_no_float now true (Delivered at op) = rw (op_has_no_float op) refl
-record_has_no_float now false (Delivered at op) = rw (op_has_no_float op) refl
+record_has_no_float at true (Visited None) = refl
+record_has_no_float at true (Visited (Some author)) = refl
+record_has_no_float at false (Visited None) = refl
+record_has_no_float at false (Visited (Some author)) = refl
+record_has_no_float now true (Delivered at visit op) = rw (op_has_no_float op) refl
+record_has_no_float now false (Delivered at visit op) = rw (op_has_no_float op) refl
 
 pub record_is_shallow : (at : ℕ) (together : Bool) (kept : Record) → depth (record_data at together kept) ≤ max_depth
-record_is_shallow at true (Named name owner) = lit≤ tt
-record_is_shallow at false (Named name owner) = lit≤ tt
+record_is_shallow at true (Named name owner true) = lit≤ tt
+record_is_shallow at true (Named name owner false) = lit≤ tt
+record_is_shallow at false (Named name owner true) = lit≤ tt
+record_is_shallow at false (Named name owner false) = lit≤ tt
 record_is_shallow at true (Granted (Author name) given) = lit≤ tt
 record_is_shallow at true (Granted Everyone given) = lit≤ tt
 record_is_shallow at false (Granted (Author name) given) = lit≤ tt
@@ -77,10 +83,12 @@ record_is_shallow at true (Handed author) = lit≤ tt
 record_is_shallow at false (Handed author) = lit≤ tt
 record_is_shallow at true (Marked named) = lit≤ tt
 record_is_shallow at false (Marked named) = lit≤ tt
-record_is_shallow at true Visited = lit≤ tt
-record_is_shallow at false Visited = lit≤ tt
-record_is_shallow now true (Delivered at op) = omega (arith, push_is_shallow [] op)
-record_is_shallow now false (Delivered at op) = omega (arith, push_is_shallow [] op)
+record_is_shallow at true (Visited None) = lit≤ tt
+record_is_shallow at true (Visited (Some author)) = lit≤ tt
+record_is_shallow at false (Visited None) = lit≤ tt
+record_is_shallow at false (Visited (Some author)) = lit≤ tt
+record_is_shallow now true (Delivered at visit op) = omega (arith, push_is_shallow [] op)
+record_is_shallow now false (Delivered at visit op) = omega (arith, push_is_shallow [] op)
 
 granted_again : (at : ℕ) (together : Bool) (grantee : Grantee) (given : Option Right) →
     entry_in (record_data at together (Granted grantee given)) ≡ Some (entry.Record (Granted grantee given))
@@ -123,20 +131,24 @@ marked_again named scalars small =
 -- the written form of a record is read as the record
 pub record_again : (at : ℕ) (together : Bool) (kept : Record) → IsSayableRecord kept →
     entry_in (record_data at together kept) ≡ Some (entry.Record kept)
-record_again at true (Named name owner) h = refl
-record_again at false (Named name owner) h = refl
+record_again at true (Named name owner true) h = refl
+record_again at true (Named name owner false) h = refl
+record_again at false (Named name owner true) h = refl
+record_again at false (Named name owner false) h = refl
 record_again at together (Granted grantee given) h = granted_again at together grantee given
 record_again at true (Handed author) h = refl
 record_again at false (Handed author) h = refl
 record_again now true (Marked named) (scalars, small) = marked_again named scalars small
 record_again now false (Marked named) (scalars, small) = marked_again named scalars small
-record_again at true Visited h = refl
-record_again at false Visited h = refl
-record_again now true (Delivered at op) (checked, sayable, small) =
-    ap₂ (λ (t : ℕ) (o : Option Op). option_map entry.Record (option_map (Delivered t) o)) (time_again at small)
+record_again at true (Visited None) h = refl
+record_again at true (Visited (Some author)) h = refl
+record_again at false (Visited None) h = refl
+record_again at false (Visited (Some author)) h = refl
+record_again now true (Delivered at visit op) (checked, sayable, small) =
+    ap₂ (λ (t : ℕ) (o : Option Op). option_map entry.Record (option_map (Delivered t visit) o)) (time_again at small)
     (reads_again op checked sayable)
-record_again now false (Delivered at op) (checked, sayable, small) =
-    ap₂ (λ (t : ℕ) (o : Option Op). option_map entry.Record (option_map (Delivered t) o)) (time_again at small)
+record_again now false (Delivered at visit op) (checked, sayable, small) =
+    ap₂ (λ (t : ℕ) (o : Option Op). option_map entry.Record (option_map (Delivered t visit) o)) (time_again at small)
     (reads_again op checked sayable)
 
 pub header_again : (pad : List ℕ) (replica : ℕ) → entry_in (header_data pad replica)

@@ -1,5 +1,5 @@
 -- What is left of a pad's file after a crash.
-use Rattle.std.specs.Prelude.{◌≡◌, ℕ, ◌≤◌, ◌≢◌, List, [], ◌∷◌, ◌++◌, length, take, false, Some, None, Ok, Err}
+use Rattle.std.specs.Prelude.{◌≡◌, ℕ, ◌≤◌, ◌≢◌, List, [], ◌∷◌, ◌++◌, length, take, Bool, false, Some, None, Ok, Err}
 use Rattle.std.specs.List.{AllByRecursion, list_any}
 use Rattle.pad_core.specs.Machine.{Machine}
 use Rattle.store_records.specs.Laws.{Had, Life, restarted_by}
@@ -113,8 +113,8 @@ CrashLaw =
     × (read.whole ≡ length (file_of (take lines texts)))
     × (file_read number most name (whole_lines bytes) ≡ Ok read)
     × (pad_read number most name bytes ≡ if_named name read)
-    × ((owner : List ℕ) (more : List Record)
-    → records_in (take lines entries) ≡ Named name owner ∷ more →
+    × ((owner : List ℕ) (visits : Bool) (more : List Record)
+    → records_in (take lines entries) ≡ Named name owner visits ∷ more →
     pad_read number most name bytes ≡ Ok read)
     × (records_in (take lines entries) ≡ [] → pad_read number most name bytes ≡ Err Empty)
     × Life number most (records_in (take lines entries)) read.pad

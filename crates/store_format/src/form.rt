@@ -5,7 +5,7 @@ ghost use Rattle.wire_json.specs.Forms.{with_fields};
 ghost use Rattle.wire_json.specs.Operations.{op_data};
 ghost use Rattle.wire_json.specs.Reading.{IsRead};
 ghost use Rattle.rights.specs.declared.grantee.Grantee.TheVariants.{Author, Everyone};
-ghost use Rattle.store_records.specs.declared.kept_record.Record.TheVariants.{Delivered, Granted, Marked};
+ghost use Rattle.store_records.specs.declared.kept_record.Record.TheVariants.{Delivered, Granted, Marked, Named, Visited};
 ghost use Rattle.store_format.specs.Forms.{record_data, record_fields, record_in, record_of};
 ghost use Rattle.store_format.specs.Forms as forms;
 
@@ -47,8 +47,10 @@ fn seconds_of(now: u64, kept: &Record) -> u64
     match kept {
         Record::Delivered { at, .. } => *at / 1000,
         Record::Marked { named } => named.at / 1000,
-        Record::Named { .. } | Record::Granted { .. } | Record::Handed { .. } | Record::Visited =>
-            now,
+        Record::Named { .. }
+        | Record::Granted { .. }
+        | Record::Handed { .. }
+        | Record::Visited { .. } => now,
     }
 }
 
@@ -61,11 +63,11 @@ fn put_record(
         ≡ with_fields (record_fields kept.now) (members_view fields.old.entries)) }
 {
     match kept {
-        Record::Named { name, owner } => {
-            put(fields, alloc, "kind", Value::try_from_str(alloc, "named")?)?;
-            put(fields, alloc, "name", name_value(alloc, name)?)?;
-            put(fields, alloc, "owner", name_value(alloc, owner)?)
-        }
+        Record::Named {
+            name,
+            owner,
+            visits,
+        } => put_named(alloc, fields, name, owner, *visits),
         Record::Granted { grantee, right } => match grantee {
             Grantee::Author(author) => put_granted(alloc, fields, author, *right),
             Grantee::Everyone => put_everyone(alloc, fields, *right),
@@ -75,14 +77,28 @@ fn put_record(
             put(fields, alloc, "owner", name_value(alloc, author)?)
         }
         Record::Marked { named } => put_marked(alloc, fields, named),
-        Record::Visited => put(
-            fields,
-            alloc,
-            "kind",
-            Value::try_from_str(alloc, "visited")?,
-        ),
-        Record::Delivered { at, op } => put_delivered(alloc, fields, *at, op),
+        Record::Visited { author } => put_visited(alloc, fields, author),
+        Record::Delivered { at, visit, op } => put_delivered(alloc, fields, *at, *visit, op),
     }
+}
+
+fn put_named(
+    alloc: Global,
+    fields: &mut Map<String, Value>,
+    name: &Name,
+    owner: &Name,
+    visits: bool,
+) -> Result<(), AllocError>
+    ensures { OnOk result (members_view fields.new.entries
+        ≡ with_fields (record_fields (Named name.now owner.now visits)) (members_view fields.old.entries)) }
+{
+    put(fields, alloc, "kind", Value::try_from_str(alloc, "named")?)?;
+    put(fields, alloc, "name", name_value(alloc, name)?)?;
+    put(fields, alloc, "owner", name_value(alloc, owner)?)?;
+    if visits {
+        put(fields, alloc, "visits", Value::Bool(true))?;
+    }
+    Ok(())
 }
 
 fn put_granted(
@@ -146,14 +162,34 @@ fn put_marked(
     put(fields, alloc, "text", text_value(alloc, &named.text)?)
 }
 
+fn put_visited(
+    alloc: Global,
+    fields: &mut Map<String, Value>,
+    author: &Option<Name>,
+) -> Result<(), AllocError>
+    ensures { OnOk result (members_view fields.new.entries
+        ≡ with_fields (record_fields (Visited author.now)) (members_view fields.old.entries)) }
+{
+    if let Some(author) = author {
+        put(fields, alloc, "author", name_value(alloc, author)?)?;
+    }
+    put(
+        fields,
+        alloc,
+        "kind",
+        Value::try_from_str(alloc, "visited")?,
+    )
+}
+
 fn put_delivered(
     alloc: Global,
     fields: &mut Map<String, Value>,
     at: u64,
+    visit: u64,
     op: &Op,
 ) -> Result<(), AllocError>
     ensures { OnOk result (members_view fields.new.entries
-        ≡ with_fields (record_fields (Delivered at op.now)) (members_view fields.old.entries)) }
+        ≡ with_fields (record_fields (Delivered at visit op.now)) (members_view fields.old.entries)) }
 {
     put(
         fields,
@@ -162,7 +198,8 @@ fn put_delivered(
         Value::try_from_str(alloc, "delivered")?,
     )?;
     put(fields, alloc, "ms", Value::from(at % 1000))?;
-    put(fields, alloc, "op", op_json(alloc, op)?)
+    put(fields, alloc, "op", op_json(alloc, op)?)?;
+    put(fields, alloc, "visit", Value::from(visit))
 }
 
 fn op_json(alloc: Global, op: &Op) -> Result<Value, AllocError>
@@ -200,7 +237,7 @@ fn read_kind(alloc: Global, kind: &str, value: &Value) -> Result<Record, Refusal
         "everyone" => read_everyone(value),
         "handed" => read_handed(alloc, value),
         "marked" => read_marked(alloc, value),
-        "visited" => Ok(Record::Visited),
+        "visited" => read_visited(alloc, value),
         "delivered" => read_delivered(alloc, value),
         _ => Err(Refusal::NotRequest),
     }
@@ -211,7 +248,12 @@ fn read_named(alloc: Global, value: &Value) -> Result<Record, Refusal>
 {
     let name = name_field(alloc, value, "name")?;
     let owner = name_field(alloc, value, "owner")?;
-    Ok(Record::Named { name, owner })
+    let visits = says_true(value, "visits");
+    Ok(Record::Named {
+        name,
+        owner,
+        visits,
+    })
 }
 
 fn read_granted(alloc: Global, value: &Value) -> Result<Record, Refusal>
@@ -256,6 +298,17 @@ fn read_marked(alloc: Global, value: &Value) -> Result<Record, Refusal>
     Ok(Record::Marked { named })
 }
 
+/// A visit of which an earlier version did not write the author has none.
+fn read_visited(alloc: Global, value: &Value) -> Result<Record, Refusal>
+    ensures { IsRead (record_of (codes "visited") (view value.now)) result }
+{
+    let author = match str_field(value, "author") {
+        Ok(author) => Some(Name::from_str(alloc, author)?),
+        Err(_) => None,
+    };
+    Ok(Record::Visited { author })
+}
+
 fn read_delivered(alloc: Global, value: &Value) -> Result<Record, Refusal>
     ensures { IsRead (record_of (codes "delivered") (view value.now)) result }
 {
@@ -264,6 +317,7 @@ fn read_delivered(alloc: Global, value: &Value) -> Result<Record, Refusal>
     };
     Ok(Record::Delivered {
         at: time_in(value),
+        visit: number_or_none(value, "visit"),
         op: read_op(alloc, op)?,
     })
 }
@@ -275,6 +329,16 @@ fn time_in(value: &Value) -> u64
     number_or_none(value, "at")
         .saturating_mul(1000)
         .saturating_add(number_or_none(value, "ms"))
+}
+
+/// Returns true if a field is true.
+fn says_true(value: &Value, key: &str) -> bool
+    ensures { result ≡ forms.says_true key.now (view value.now) }
+{
+    match value.get(key) {
+        Some(found) => found.as_bool().unwrap_or(false),
+        None => false,
+    }
 }
 
 /// A number field, or 0.

@@ -1,12 +1,13 @@
 -- The records of an act lead from the restarted pad before it to the restarted pad after it.
 use Rattle.std.proofs.Common.{◌≡◌, ◌⊎◌, inl, inr, ℕ, ◌+◌, Bool, true, false, cond, List, [], ◌∷◌, ◌++◌}
 use Rattle.std.proofs.Common.{length, map, Option, Some, None, Result, Ok, Err, bytes_eq, nat_le}
-use Rattle.std.proofs.Common.{ltb, refl, sym, ap, ◌∙◌, subst}
+use Rattle.std.proofs.Common.{ltb, refl, sym, ap, ◌∙◌, subst, not, option_map}
+use Rattle.std.specs.List.{last_or}
 use Rattle.pad_model.specs.Checked.{is_name}
 use Rattle.pad_model.specs.Visible.{visible}
 use Rattle.pad_model.specs.declared.op.Op.{Op}
 use Rattle.pad_model.specs.declared.refusal.Refusal.{Refusal}
-use Rattle.pad_model.specs.declared.refusal.Refusal.TheVariants.{Crowded}
+use Rattle.pad_model.specs.declared.refusal.Refusal.TheVariants.{Crowded, NoVisit}
 use Rattle.pad_model.specs.declared.who.Who.{Who}
 use Rattle.pad_model.specs.declared.who.Who.TheVariants as who
 use Rattle.pad_model.specs.declared.who.Version.{Version}
@@ -17,14 +18,17 @@ use Rattle.rights.specs.declared.right.Right.{Right}
 use Rattle.rights.specs.declared.right.Right.TheVariants.{Write}
 use Rattle.named_revisions.specs.Named.{add, name_refusal}
 use Rattle.named_revisions.specs.declared.named_revision.NamedRevision.{NamedRevision}
-use Rattle.presence.specs.Presence.{Presence, join_refusal, joined, spent_refusal, with_caret}
+use Rattle.op_log.specs.Made.{Made}
+use Rattle.op_log.specs.Makers.{made_in}
+use Rattle.presence.specs.Presence.{Presence, join_refusal, joined, rejoin_refusal, spent_refusal, was_given, with_caret}
+use Rattle.presence.specs.Presence.{without}
 use Rattle.pad_core.specs.Counts.{characters_at}
 use Rattle.pad_core.specs.Delivered.{IsDelivered}
 use Rattle.pad_core.specs.Edits.{before_place}
 use Rattle.pad_core.specs.Grants.{grant as granted, hand as handed, told_done}
 use Rattle.pad_core.specs.Machine.{Machine, author_act, now_of, peer_act}
 use Rattle.pad_core.specs.Marks.{mark, named as revision_named}
-use Rattle.pad_core.specs.Presence.{join, put_caret}
+use Rattle.pad_core.specs.Presence.{join, put_caret, rejoin}
 use Rattle.pad_core.specs.Restart.{restarted, restore_grant, restore_hand, restore_mark, visited}
 use Rattle.pad_core.specs.declared.act.Act.{Act}
 use Rattle.pad_core.specs.declared.act.Act.TheVariants as act
@@ -33,19 +37,19 @@ use Rattle.pad_core.specs.declared.reply.PadReply.{PadReply}
 use Rattle.pad_core.specs.declared.reply.PadReply.TheVariants as pad
 use Rattle.pad_core.proofs.Allowed.{unless}
 use Rattle.server_core.specs.AtCell.{passed_on}
-use Rattle.store_records.specs.Laws.{now_at}
+use Rattle.store_records.specs.Laws.{now_at, visit_at}
 use Rattle.pad_core.specs.Times.{timed}
 use Rattle.pad_core.proofs.Timed.{same_times}
 use Rattle.store_records.specs.Records.{Answer, act_records, replay_all, unless_refused}
 use Rattle.store_records.specs.declared.kept_record.Record.{Record}
 use Rattle.store_records.specs.declared.kept_record.Record.TheVariants as kept
-use Rattle.store_records.proofs.Deliveries.{bare, quiet}
-use Rattle.store_records.proofs.Numbers.{alone}
+use Rattle.store_records.proofs.Deliveries.{Given, bare, given_on, one_given, quiet}
+use Rattle.store_records.proofs.Numbers.{nobody}
 
 -- some records lead from a pad to another, which delivered these operations
-abbrev pub Leads : (ℕ → Answer → List Op → List Record) → Machine → Answer → Machine → Type 0
+abbrev pub Leads : (ℕ → ℕ → Answer → List Op → List Record) → Machine → Answer → Machine → Type 0
 Leads records old answer after = (more : List Op) → after.log ≡ old.log ++ more → IsDelivered after.log →
-    replay_all (records (now_at old) answer more) (restarted old) ≡ Ok (restarted after)
+    replay_all (records (now_at old) (visit_at after) answer more) (restarted old) ≡ Ok (restarted after)
 
 pub either : {A : Type 0} (P : A → Type 0) (b : Bool) (x y : A) → P x → P y → P (cond b x y)
 either P true x y p q = p
@@ -55,19 +59,19 @@ either P false x y p q = q
 can_join : (p : Presence) → join_refusal p ≡ None → spent_refusal p ≡ None
 can_join p e = (unless (nat_le p.limit (length p.present)) Crowded _ e).1
 
-visit_again : (owned : Owned) (replica : ℕ) (log : List Op) (p : Presence) (times : List ℕ) → join_refusal p ≡ None →
-    replay_all (kept.Visited ∷ []) (bare (Some owned) replica p.limit log p.given times)
-    ≡ Ok (bare (Some owned) replica p.limit log (p.given + 1) times)
-visit_again owned replica log p times e =
+visit_again : (owned : Owned) (replica : ℕ) (log : List Op) (p : Presence) (made : Made) (name : List ℕ) →
+    spent_refusal p ≡ None →
+    replay_all (kept.Visited (Some name) ∷ []) (bare (Some owned) replica p.limit log (given_on p) made)
+    ≡ Ok (bare (Some owned) replica p.limit log (one_given (Some name) (given_on p)) made)
+visit_again owned replica log p made name e =
     ap (λ (d : Result (Unit {0}) Refusal × Presence). unless_refused (
       d.0,
-      record { owned = Some owned; replica = replica; log = log; held = []; presence = d.1; clock = 0; times = times },
+      record { owned = Some owned; replica = replica; log = log; held = []; presence = d.1; clock = 0; made = made },
     )) counts
   where
-    counts : visited owned.rights.owner (record { limit = p.limit; given = p.given; present = [] })
-        ≡ (Ok tt, record { limit = p.limit; given = p.given + 1; present = [] })
-    counts = rw (can_join p e) (ap (λ (q : Presence). (let r : Result (Unit {0}) Refusal × Presence = (Ok tt, q) in r))
-        (alone p.limit p.given owned.rights.owner))
+    counts : visited (Some name) (nobody p.limit (given_on p))
+        ≡ (Ok tt, nobody p.limit (one_given (Some name) (given_on p)))
+    counts = rw e refl
 
 joins : (owned : Owned) (name : List ℕ) (m : Machine) → m.owned ≡ Some owned →
     Leads (act_records (who.Author name) act.Join) m (passed_on (join (now_of m) name m.presence).0)
@@ -85,25 +89,58 @@ joins owned name m is = at (join_refusal m.presence) refl
     allowed q = rw q refl
 
     at : (r : Option Refusal) → join_refusal m.presence ≡ r → Goal (join (now_of m) name m.presence)
-    at (Some e) q = subst Goal (sym (refused e q)) (λ more grown d. quiet m m more refl refl refl refl (same_times m) grown d)
+    at (Some e) q = subst Goal (sym (refused e q)) (λ more grown d. ap Ok refl)
     at None q =
         subst Goal (sym (allowed q))
-        (λ more grown d. subst (λ (o : Option Owned). replay_all (kept.Visited ∷ [])
-        (bare o m.replica m.presence.limit m.log m.presence.given m.times)
-        ≡ Ok (bare o m.replica m.presence.limit m.log (m.presence.given + 1) m.times)) (sym is)
-        (visit_again owned m.replica m.log m.presence m.times q))
+        (λ more grown d. subst (λ (o : Option Owned). replay_all (kept.Visited (Some name) ∷ [])
+        (bare o m.replica m.presence.limit m.log (given_on m.presence) m.made)
+        ≡ Ok (bare o m.replica m.presence.limit m.log (one_given (Some name) (given_on m.presence)) m.made)) (sym is)
+        (visit_again owned m.replica m.log m.presence m.made name (can_join m.presence q)))
 
-grant_again : (owned : Owned) (replica limit : ℕ) (log : List Op) (given : ℕ) (times : List ℕ)
+-- if an author can join instead of an old visit, a further number is given
+can_rejoin : (old : ℕ) (name : List ℕ) (p : Presence) → rejoin_refusal old name p ≡ None → spent_refusal p ≡ None
+can_rejoin old name p e = can_join (without old p) (unless (not (was_given old name p)) NoVisit _ e).1
+
+rejoins : (owned : Owned) (name : List ℕ) (old : ℕ) (m : Machine) → m.owned ≡ Some owned →
+    Leads (act_records (who.Author name) (act.Rejoin old)) m (passed_on (rejoin old name m.log m.made m.presence).0)
+    (record m { presence = (rejoin old name m.log m.made m.presence).1 })
+rejoins owned name old m is = at (rejoin_refusal old name m.presence) refl
+  where
+    Goal : Result PadReply Refusal × Presence → Type 0
+    Goal done = Leads (act_records (who.Author name) (act.Rejoin old)) m (passed_on done.0) (record m { presence = done.1 })
+
+    refused : (e : Refusal) → rejoin_refusal old name m.presence ≡ Some e →
+        rejoin old name m.log m.made m.presence ≡ (Err e, m.presence)
+    refused e q = rw q refl
+
+    allowed : rejoin_refusal old name m.presence ≡ None → rejoin old name m.log m.made m.presence
+        ≡ (
+          Ok (pad.Rejoined (now_of m) (m.presence.given + 1) (length (made_in old m.log m.made.visits))
+              (option_map (λ op. op.name) (last_or None (made_in old m.log m.made.visits)))),
+          joined name (without old m.presence),
+        )
+    allowed q = rw q refl
+
+    at : (r : Option Refusal) → rejoin_refusal old name m.presence ≡ r → Goal (rejoin old name m.log m.made m.presence)
+    at (Some e) q = subst Goal (sym (refused e q)) (λ more grown d. ap Ok refl)
+    at None q =
+        subst Goal (sym (allowed q))
+        (λ more grown d. subst (λ (o : Option Owned). replay_all (kept.Visited (Some name) ∷ [])
+        (bare o m.replica m.presence.limit m.log (given_on m.presence) m.made)
+        ≡ Ok (bare o m.replica m.presence.limit m.log (one_given (Some name) (given_on m.presence)) m.made)) (sym is)
+        (visit_again owned m.replica m.log m.presence m.made name (can_rejoin old name m.presence q)))
+
+grant_again : (owned : Owned) (replica limit : ℕ) (log : List Op) (given : Given) (made : Made)
     (grantee : Grantee) (right : Option Right) (book : Rights) → can_have grantee right ≡ true → grant owned.rights grantee right ≡ (Ok tt, book) →
-    replay_all (kept.Granted grantee right ∷ []) (bare (Some owned) replica limit log given times)
-    ≡ Ok (bare (Some (record owned { rights = book })) replica limit log given times)
-grant_again owned replica limit log given times grantee right book can is =
+    replay_all (kept.Granted grantee right ∷ []) (bare (Some owned) replica limit log given made)
+    ≡ Ok (bare (Some (record owned { rights = book })) replica limit log given made)
+grant_again owned replica limit log given made grantee right book can is =
     ap unless_refused grants_it
   where
-    grants_it : restore_grant grantee right (bare (Some owned) replica limit log given times)
-        ≡ (Ok tt, bare (Some (record owned { rights = book })) replica limit log given times)
+    grants_it : restore_grant grantee right (bare (Some owned) replica limit log given made)
+        ≡ (Ok tt, bare (Some (record owned { rights = book })) replica limit log given made)
     grants_it = rw can (ap (λ (d : Result (Unit {0}) Refusal × Rights). (let r : Result (Unit {0}) Refusal
-        × Machine = (d.0, bare (Some (record owned { rights = d.1 })) replica limit log given times) in r)) is)
+        × Machine = (d.0, bare (Some (record owned { rights = d.1 })) replica limit log given made) in r)) is)
 
 -- a grant is refused and changes nothing, or it takes effect
 abbrev Grants : Rights → Result (Unit {0}) Refusal × Rights → Type 0
@@ -128,26 +165,26 @@ gives owned name grantee right m is can = at (grant owned.rights grantee right) 
     at : (done : Result (Unit {0}) Refusal × Rights) → grant owned.rights grantee right ≡ done →
         Grants owned.rights done → Goal done
     at done q (inl (e, same)) = subst Goal (sym same)
-        (λ more grown d. quiet m (record m { owned = Some owned }) more (sym is) refl refl refl (same_times m) grown d)
+        (λ more grown d. quiet 0 m (record m { owned = Some owned }) more (sym is) refl refl refl (same_times 0 m) grown d)
     at done q (inr (new, same)) =
         subst Goal (sym same)
         (λ more grown d. subst (λ (o : Option Owned). replay_all (kept.Granted grantee right ∷ [])
-        (bare o m.replica m.presence.limit m.log m.presence.given m.times)
-        ≡ Ok (bare (Some (record owned { rights = new })) m.replica m.presence.limit m.log m.presence.given m.times)) (sym is)
-        (grant_again owned m.replica m.presence.limit m.log m.presence.given m.times grantee right new can (q ∙ same)))
+        (bare o m.replica m.presence.limit m.log (given_on m.presence) m.made)
+        ≡ Ok (bare (Some (record owned { rights = new })) m.replica m.presence.limit m.log (given_on m.presence) m.made)) (sym is)
+        (grant_again owned m.replica m.presence.limit m.log (given_on m.presence) m.made grantee right new can (q ∙ same)))
 
-hand_again : (owned : Owned) (replica limit : ℕ) (log : List Op) (given : ℕ) (times : List ℕ)
+hand_again : (owned : Owned) (replica limit : ℕ) (log : List Op) (given : Given) (made : Made)
     (author : List ℕ) (book : Rights) →
     is_name author ≡ true → hand owned.rights author ≡ (Ok tt, book) →
-    replay_all (kept.Handed author ∷ []) (bare (Some owned) replica limit log given times)
-    ≡ Ok (bare (Some (record owned { rights = book })) replica limit log given times)
-hand_again owned replica limit log given times author book named is =
+    replay_all (kept.Handed author ∷ []) (bare (Some owned) replica limit log given made)
+    ≡ Ok (bare (Some (record owned { rights = book })) replica limit log given made)
+hand_again owned replica limit log given made author book named is =
     ap unless_refused hands_it
   where
-    hands_it : restore_hand author (bare (Some owned) replica limit log given times)
-        ≡ (Ok tt, bare (Some (record owned { rights = book })) replica limit log given times)
+    hands_it : restore_hand author (bare (Some owned) replica limit log given made)
+        ≡ (Ok tt, bare (Some (record owned { rights = book })) replica limit log given made)
     hands_it = rw named (ap (λ (d : Result (Unit {0}) Refusal × Rights). (let r : Result (Unit {0}) Refusal
-        × Machine = (d.0, bare (Some (record owned { rights = d.1 })) replica limit log given times) in r)) is)
+        × Machine = (d.0, bare (Some (record owned { rights = d.1 })) replica limit log given made) in r)) is)
 
 hand_overs : (book : Rights) (author : List ℕ) → Grants book (hand book author)
 hand_overs book author =
@@ -161,7 +198,7 @@ hands owned asker author m is named =
     either (λ (done : Result PadReply Refusal × Rights). Leads (act_records (who.Author asker) (act.Hand author)) m (passed_on done.0)
     (record m { owned = Some (record owned { rights = done.1 }) })) (bytes_eq asker owned.rights.owner) _ _
     (at (hand owned.rights author) refl (hand_overs owned.rights author))
-    (λ more grown d. quiet m (record m { owned = Some owned }) more (sym is) refl refl refl (same_times m) grown d)
+    (λ more grown d. quiet 0 m (record m { owned = Some owned }) more (sym is) refl refl refl (same_times 0 m) grown d)
   where
     Goal : Result (Unit {0}) Refusal × Rights → Type 0
     Goal done = Leads (act_records (who.Author asker) (act.Hand author)) m (passed_on (told_done (now_of m) done.0))
@@ -170,13 +207,13 @@ hands owned asker author m is named =
     at : (done : Result (Unit {0}) Refusal × Rights) → hand owned.rights author ≡ done →
         Grants owned.rights done → Goal done
     at done q (inl (e, same)) = subst Goal (sym same)
-        (λ more grown d. quiet m (record m { owned = Some owned }) more (sym is) refl refl refl (same_times m) grown d)
+        (λ more grown d. quiet 0 m (record m { owned = Some owned }) more (sym is) refl refl refl (same_times 0 m) grown d)
     at done q (inr (new, same)) =
         subst Goal (sym same)
         (λ more grown d. subst (λ (o : Option Owned). replay_all (kept.Handed author ∷ [])
-        (bare o m.replica m.presence.limit m.log m.presence.given m.times)
-        ≡ Ok (bare (Some (record owned { rights = new })) m.replica m.presence.limit m.log m.presence.given m.times)) (sym is)
-        (hand_again owned m.replica m.presence.limit m.log m.presence.given m.times author new named (q ∙ same)))
+        (bare o m.replica m.presence.limit m.log (given_on m.presence) m.made)
+        ≡ Ok (bare (Some (record owned { rights = new })) m.replica m.presence.limit m.log (given_on m.presence) m.made)) (sym is)
+        (hand_again owned m.replica m.presence.limit m.log (given_on m.presence) m.made author new named (q ∙ same)))
 
 -- a name of a revision is refused and changes nothing, or it is added
 abbrev Names : List NamedRevision → Result (Unit {0}) Refusal × List NamedRevision → Type 0
@@ -189,18 +226,18 @@ namings now this all = either (Names all) (ltb now this.rev) _ _ (inl (_, refl))
     at (Some e) q = inl (e, rw q refl)
     at None q = inr (all ++ this ∷ [], rw q refl)
 
-mark_again : (owned : Owned) (replica limit : ℕ) (log : List Op) (given : ℕ) (times : List ℕ) (this : NamedRevision)
+mark_again : (owned : Owned) (replica limit : ℕ) (log : List Op) (given : Given) (made : Made) (this : NamedRevision)
     (all : List NamedRevision) →
     is_name this.author ≡ true → revision_named (length log) this owned.marks ≡ (Ok tt, all) →
-    replay_all (kept.Marked this ∷ []) (bare (Some owned) replica limit log given times)
-    ≡ Ok (bare (Some (record owned { marks = all })) replica limit log given times)
-mark_again owned replica limit log given times this all good is =
+    replay_all (kept.Marked this ∷ []) (bare (Some owned) replica limit log given made)
+    ≡ Ok (bare (Some (record owned { marks = all })) replica limit log given made)
+mark_again owned replica limit log given made this all good is =
     ap unless_refused names_it
   where
-    names_it : restore_mark this (bare (Some owned) replica limit log given times)
-        ≡ (Ok tt, bare (Some (record owned { marks = all })) replica limit log given times)
+    names_it : restore_mark this (bare (Some owned) replica limit log given made)
+        ≡ (Ok tt, bare (Some (record owned { marks = all })) replica limit log given made)
     names_it = rw good (ap (λ (d : Result (Unit {0}) Refusal × List NamedRevision). (let r : Result (Unit {0}) Refusal
-        × Machine = (d.0, bare (Some (record owned { marks = d.1 })) replica limit log given times) in r)) is)
+        × Machine = (d.0, bare (Some (record owned { marks = d.1 })) replica limit log given made) in r)) is)
 
 marks : (owned : Owned) (author : List ℕ) (rev : ℕ) (text : List ℕ) (m : Machine) → m.owned ≡ Some owned → is_name author ≡ true →
     Leads (act_records (who.Author author) (act.Mark rev text)) m
@@ -218,37 +255,37 @@ marks owned author rev text m is good = at (revision_named (now_of m) this owned
     at : (done : Result (Unit {0}) Refusal × List NamedRevision) → revision_named (now_of m) this owned.marks ≡ done →
         Names owned.marks done → Goal done
     at done q (inl (e, unchanged)) = subst Goal (sym unchanged)
-        (λ more grown d. ap (λ (o : Option Owned). Ok (bare o m.replica m.presence.limit m.log m.presence.given m.times)) is)
+        (λ more grown d. ap (λ (o : Option Owned). Ok (bare o m.replica m.presence.limit m.log (given_on m.presence) m.made)) is)
     at done q (inr (new, more_named)) =
         subst Goal (sym more_named)
         (λ more grown d. subst (λ (o : Option Owned). replay_all (kept.Marked this ∷ [])
-        (bare o m.replica m.presence.limit m.log m.presence.given m.times)
-        ≡ Ok (bare (Some (record owned { marks = new })) m.replica m.presence.limit m.log m.presence.given m.times)) (sym is)
-        (mark_again owned m.replica m.presence.limit m.log m.presence.given m.times this new good (q ∙ more_named)))
+        (bare o m.replica m.presence.limit m.log (given_on m.presence) m.made)
+        ≡ Ok (bare (Some (record owned { marks = new })) m.replica m.presence.limit m.log (given_on m.presence) m.made)) (sym is)
+        (mark_again owned m.replica m.presence.limit m.log (given_on m.presence) m.made this new good (q ∙ more_named)))
 
 -- the operations alone lead from a pad to another
 abbrev Moves : Machine → Machine → Type 0
 Moves old after = (more : List Op) → after.log ≡ old.log ++ more → IsDelivered after.log →
-    replay_all (map (kept.Delivered (now_at old)) more) (restarted old) ≡ Ok (restarted after)
+    replay_all (map (kept.Delivered (now_at old) (visit_at after)) more) (restarted old) ≡ Ok (restarted after)
 
 same : (m : Machine) → Moves m m
-same m more grown d = quiet m m more refl refl refl refl (same_times m) grown d
+same m more grown d = quiet 0 m m more refl refl refl refl (same_times 0 m) grown d
 
-logs : (m : Machine) (log : List Op) → Moves m (record m { log = log; times = timed m.clock m.log log m.times })
-logs m log more grown d = quiet m (record m { log = log; times = timed m.clock m.log log m.times }) more refl refl refl refl
-    refl grown d
+logs : (m : Machine) (visit : ℕ) (log : List Op) → Moves m (record m { log = log; made = timed m.clock visit m.log log m.made })
+logs m visit log more grown d = quiet visit m (record m { log = log; made = timed m.clock visit m.log log m.made }) more refl
+    refl refl refl refl grown d
 
-present_alone : (m : Machine) (p : Presence) → p.limit ≡ m.presence.limit → p.given ≡ m.presence.given →
+present_alone : (m : Machine) (p : Presence) → p.limit ≡ m.presence.limit → given_on p ≡ given_on m.presence →
     Moves m (record m { presence = p })
-present_alone m p limit given more grown d = quiet m (record m { presence = p }) more refl refl limit given (same_times m)
+present_alone m p limit given more grown d = quiet 0 m (record m { presence = p }) more refl refl limit given (same_times 0 m)
     grown d
 
 carets : (rev at visit : ℕ) (log : List Op) (m : Machine) →
     Moves m (record m { presence = (put_caret rev at visit log m.presence).1 })
 carets rev at visit log m = present_alone m (put_caret rev at visit log m.presence).1 (keeps (λ p. p.limit) refl)
-    (keeps (λ p. p.given) refl)
+    (keeps given_on refl)
   where
-    keeps : (part : Presence → ℕ) →
+    keeps : {A : Type 0} (part : Presence → A) →
         part (record m.presence {
           present = with_caret (before_place (characters_at rev log) at) visit
               m.presence.present;
@@ -268,14 +305,15 @@ pub author_leads : (owned : Owned) (name : List ℕ) (visit : ℕ) (this : Act) 
     Leads (act_records (who.Author name) this) m (passed_on (author_act owned name visit this m).0)
     (author_act owned name visit this m).1
 author_leads owned name visit act.Join m is can named good = joins owned name m is
+author_leads owned name visit (act.Rejoin old) m is can named good = rejoins owned name old m is
 author_leads owned name visit act.Leave m is can named good =
-    λ more grown d. quiet m (author_act owned name visit act.Leave m).1 more refl refl refl refl (same_times m)
+    λ more grown d. quiet 0 m (author_act owned name visit act.Leave m).1 more refl refl refl refl (same_times 0 m)
     grown d
-author_leads owned name visit (act.Insert rev at text) m is can named good = logs m _
-author_leads owned name visit (act.Delete rev at len) m is can named good = logs m _
-author_leads owned name visit (act.Edit rev changes) m is can named good = logs m _
-author_leads owned name visit (act.Comment rev at len text) m is can named good = logs m _
-author_leads owned name visit (act.Resolve resolved) m is can named good = logs m _
+author_leads owned name visit (act.Insert rev at text) m is can named good = logs m visit _
+author_leads owned name visit (act.Delete rev at len) m is can named good = logs m visit _
+author_leads owned name visit (act.Edit rev changes) m is can named good = logs m visit _
+author_leads owned name visit (act.Comment rev at len text) m is can named good = logs m visit _
+author_leads owned name visit (act.Resolve resolved) m is can named good = logs m visit _
 author_leads owned name visit (act.Caret rev at) m is can named good = carets rev at visit m.log m
 author_leads owned name visit (act.Grant grantee right) m is can named good =
     gives owned name grantee right m is (can grantee right refl)
@@ -287,7 +325,12 @@ author_leads owned name visit other m is can named good = same m
 
 -- a refused act leaves no records, and changes nothing
 pub idle : (w : Who) (this : Act) (e : Refusal) (m : Machine) → Leads (act_records w this) m (Err e) m
-idle w act.Join e m = same m
+idle who.Nobody act.Join e m = λ more grown d. refl
+idle (who.Author name) act.Join e m = λ more grown d. refl
+idle (who.Peer number version) act.Join e m = λ more grown d. refl
+idle who.Nobody (act.Rejoin old) e m = λ more grown d. refl
+idle (who.Author name) (act.Rejoin old) e m = λ more grown d. refl
+idle (who.Peer number version) (act.Rejoin old) e m = λ more grown d. refl
 idle who.Nobody (act.Mark rev text) e m = λ more grown d. refl
 idle (who.Author name) (act.Mark rev text) e m = λ more grown d. refl
 idle (who.Peer number version) (act.Mark rev text) e m = λ more grown d. refl
@@ -295,7 +338,12 @@ idle w other e m = same m
 
 -- an act at a pad of another name
 pub elsewhere : (w : Who) (this : Act) (m : Machine) → Leads (act_records w this) m (Ok None) m
-elsewhere w act.Join m = same m
+elsewhere who.Nobody act.Join m = λ more grown d. refl
+elsewhere (who.Author name) act.Join m = λ more grown d. refl
+elsewhere (who.Peer number version) act.Join m = λ more grown d. refl
+elsewhere who.Nobody (act.Rejoin old) m = λ more grown d. refl
+elsewhere (who.Author name) (act.Rejoin old) m = λ more grown d. refl
+elsewhere (who.Peer number version) (act.Rejoin old) m = λ more grown d. refl
 elsewhere who.Nobody (act.Mark rev text) m = λ more grown d. refl
 elsewhere (who.Author name) (act.Mark rev text) m = λ more grown d. refl
 elsewhere (who.Peer number version) (act.Mark rev text) m = λ more grown d. refl
@@ -304,7 +352,9 @@ elsewhere w other m = same m
 -- a peer's act
 pub peer_leads : (number : ℕ) (version : Version) (this : Act) (m : Machine) →
     Leads (act_records (who.Peer number version) this) m (passed_on (peer_act version this m).0) (peer_act version this m).1
+peer_leads number version act.Join m = λ more grown d. refl
+peer_leads number version (act.Rejoin old) m = λ more grown d. refl
 peer_leads number version (act.Mark rev text) m = λ more grown d. refl
-peer_leads number version (act.Push op) m = λ more grown d. quiet m (peer_act version (act.Push op) m).1 more refl refl refl
+peer_leads number version (act.Push op) m = λ more grown d. quiet 0 m (peer_act version (act.Push op) m).1 more refl refl refl
     refl refl grown d
 peer_leads number version other m = same m

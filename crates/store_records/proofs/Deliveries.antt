@@ -1,12 +1,17 @@
 -- The operations of a log that a pad can have are delivered again, one after another.
 use Rattle.std.proofs.Common.{◌≡◌, ℕ, ◌+◌, ◌≤◌, true, cond, eq-eqb, List, [], ◌∷◌, ◌++◌}
-use Rattle.std.proofs.Common.{length, map, fold, flat_map, count_by, Option, None, Result, Ok, refl, sym, ap}
-use Rattle.std.proofs.Common.{◌∙◌, ap₂, subst, arith, append-nil, append_assoc, replicate, suc}
+use Rattle.std.proofs.Common.{length, map, fold, flat_map, count_by, Option, None, Some, Result, Ok, refl, sym, ap}
+use Rattle.std.proofs.Common.{◌∙◌, ap₂, subst, arith, append-nil, append_assoc, replicate, zero, suc, nat_lt, unwrap_or}
+use Rattle.std.specs.List.{last_or}
+use Rattle.pad_model.proofs.Newer.{split}
+use Rattle.presence.specs.Presence.{Presence}
+use Rattle.op_log.specs.Made.{Made, last_visit, more as making}
+use Rattle.op_log.specs.Makers.{noted}
 use Rattle.op_log.specs.Times.{last_time}
 use Rattle.op_log.proofs.TimeLists.{last_filled}
 use Rattle.pad_core.specs.Times.{time_now, timed}
-use Rattle.pad_core.proofs.Timed.{Times, timed_more}
-use Rattle.store_records.specs.Laws.{now_at}
+use Rattle.pad_core.proofs.Timed.{Times, none_more, timed_more}
+use Rattle.store_records.specs.Laws.{now_at, visit_at}
 use Rattle.std.specs.Prelude.{IsTrue, sum_by}
 use Rattle.std.proofs.lemmas.List.{length-append}
 use Rattle.std.proofs.lemmas.List.Concat.{flat_map-append}
@@ -29,16 +34,28 @@ use Rattle.pad_core.proofs.Judged.{Allowed, not_refused}
 use Rattle.store_records.specs.Records.{replay_all, replayed, unless_refused}
 use Rattle.store_records.specs.declared.kept_record.Record.TheVariants.{Delivered}
 
--- a restarted pad with this owner, these numbers, this log and these times
-abbrev pub bare : Option Owned → ℕ → ℕ → List Op → ℕ → List ℕ → Machine
-bare o replica limit log given times = record {
+-- how many visits were given out, and to whom
+abbrev pub Given : Type 0
+Given = ℕ × List (Option (List ℕ))
+
+-- the visits that were given out on a pad
+abbrev pub given_on : Presence → Given
+given_on p = (p.given, p.authors)
+
+-- one more visit
+abbrev pub one_given : Option (List ℕ) → Given → Given
+one_given author given = (given.0 + 1, given.1 ++ author ∷ [])
+
+-- a restarted pad with this owner, these numbers, this log, and what is known of its operations
+abbrev pub bare : Option Owned → ℕ → ℕ → List Op → Given → Made → Machine
+bare o replica limit log given made = record {
   owned = o;
   replica = replica;
   log = log;
   held = [];
-  presence = record { limit = limit; given = given; present = [] };
+  presence = record { limit = limit; given = given.0; present = []; authors = given.1 };
   clock = 0;
-  times = times;
+  made = made;
 }
 
 checked_at : (before log : List Op) (op : Op) (more : List Op) → Continues before (log ++ op ∷ more) →
@@ -93,17 +110,17 @@ again_at log op more d =
     rw (checked, next) (not_refused log op (allowed_at log op more d))
 
 -- a restarted pad delivers it, at a time that is not before the last one
-one_again : (o : Option Owned) (replica limit : ℕ) (log : List Op) (given : ℕ) (times : List ℕ) (at : ℕ) (op : Op) →
-    time_now at times ≡ at → restore_refusal op log ≡ None →
-    replayed (Ok (bare o replica limit log given times)) (Delivered at op)
-    ≡ Ok (bare o replica limit (log ++ op ∷ []) given (times ++ at ∷ []))
-one_again o replica limit log given times at op late e =
+one_again : (o : Option Owned) (replica limit : ℕ) (log : List Op) (given : Given) (made : Made) (at visit : ℕ) (op : Op) →
+    time_now at made.times ≡ at → restore_refusal op log ≡ None →
+    replayed (Ok (bare o replica limit log given made)) (Delivered at visit op)
+    ≡ Ok (bare o replica limit (log ++ op ∷ []) given (making 1 at visit made))
+one_again o replica limit log given made at visit op late e =
     ap (λ (d : Result (Unit {0}) Refusal × List Op). unless_refused (
       d.0,
-      bare o replica limit d.1 given (timed at log d.1 times),
+      bare o replica limit d.1 given (timed at visit log d.1 made),
     )) again
-    ∙ ap (λ ts. Ok (bare o replica limit (log ++ op ∷ []) given ts)) (timed_more at log (op ∷ []) times
-    ∙ ap (λ t. times ++ t ∷ []) late)
+    ∙ ap (λ (m : Made). Ok (bare o replica limit (log ++ op ∷ []) given m)) (timed_more at visit log (op ∷ []) made
+    ∙ ap (λ t. making 1 t visit made) late)
   where
     again : delivered_again op log ≡ (Ok tt, log ++ op ∷ [])
     again = rw e refl
@@ -112,57 +129,92 @@ one_again o replica limit log given times at op late e =
 still_late : (times : List ℕ) (at : ℕ) → time_now at (times ++ at ∷ []) ≡ at
 still_late times at = let last : last_time (times ++ at ∷ []) ≡ at = last_filled 0 times 0 at in omega (arith, last)
 
-one_more : (times : List ℕ) (at n : ℕ) → (times ++ at ∷ []) ++ replicate n at ≡ times ++ replicate (suc n) at
-one_more times at n = append_assoc times (at ∷ []) (replicate n at)
+one_more : (made : Made) (at visit n : ℕ) → making n at visit (making 1 at visit made) ≡ making (suc n) at visit made
+one_more made at visit n =
+    ap₂ (λ (times visits : List ℕ). (let m : Made = record { times = times; visits = visits } in m))
+    (append_assoc made.times (at ∷ []) (replicate n at))
+    (append_assoc made.visits (noted visit ∷ []) (replicate n (noted visit)))
 
 -- a restarted pad delivers all of them
-pub all_again : (o : Option Owned) (replica limit : ℕ) (log more : List Op) (given : ℕ) (times : List ℕ) (at : ℕ) →
-    time_now at times ≡ at → IsDelivered (log ++ more) →
-    replay_all (map (Delivered at) more) (bare o replica limit log given times)
-    ≡ Ok (bare o replica limit (log ++ more) given (times ++ replicate (length more) at))
-all_again o replica limit log [] given times at late d =
-    ap₂ (λ (l : List Op) (ts : List ℕ). Ok (bare o replica limit l given ts)) (sym (append-nil log)) (sym (append-nil times))
-all_again o replica limit log (op ∷ more) given times at late d =
-    ap (λ (m : Result Machine Refusal). fold replayed m (map (Delivered at) more))
-    (one_again o replica limit log given times at op late (again_at log op more d))
-    ∙ (all_again o replica limit (log ++ op ∷ []) more given (times ++ at ∷ []) at (still_late times at)
+pub all_again : (o : Option Owned) (replica limit : ℕ) (log more : List Op) (given : Given) (made : Made) (at visit : ℕ) →
+    time_now at made.times ≡ at → IsDelivered (log ++ more) →
+    replay_all (map (Delivered at visit) more) (bare o replica limit log given made)
+    ≡ Ok (bare o replica limit (log ++ more) given (making (length more) at visit made))
+all_again o replica limit log [] given made at visit late d =
+    ap₂ (λ (l : List Op) (m : Made). Ok (bare o replica limit l given m)) (sym (append-nil log)) (sym (none_more at visit made))
+all_again o replica limit log (op ∷ more) given made at visit late d =
+    ap (λ (m : Result Machine Refusal). fold replayed m (map (Delivered at visit) more))
+    (one_again o replica limit log given made at visit op late (again_at log op more d))
+    ∙ (all_again o replica limit (log ++ op ∷ []) more given (making 1 at visit made) at visit (still_late made.times at)
     (subst IsDelivered (sym (append_assoc log (op ∷ []) more)) d)
-    ∙ ap₂ (λ (l : List Op) (ts : List ℕ). Ok (bare o replica limit l given ts)) (append_assoc log (op ∷ []) more)
-    (one_more times at (length more)))
+    ∙ ap₂ (λ (l : List Op) (m : Made). Ok (bare o replica limit l given m)) (append_assoc log (op ∷ []) more)
+    (one_more made at visit (length more)))
 
 -- a restarted pad delivers only the first of them
-pub front_again : (o : Option Owned) (replica limit : ℕ) (log first rest : List Op) (given : ℕ) (times : List ℕ) (at : ℕ) →
-    time_now at times ≡ at → IsDelivered (log ++ (first ++ rest)) →
-    replay_all (map (Delivered at) first) (bare o replica limit log given times)
-    ≡ Ok (bare o replica limit (log ++ first) given (times ++ replicate (length first) at))
-front_again o replica limit log [] rest given times at late d =
-    ap₂ (λ (l : List Op) (ts : List ℕ). Ok (bare o replica limit l given ts)) (sym (append-nil log)) (sym (append-nil times))
-front_again o replica limit log (op ∷ first) rest given times at late d =
-    ap (λ (m : Result Machine Refusal). fold replayed m (map (Delivered at) first))
-    (one_again o replica limit log given times at op late (again_at log op (first ++ rest) d))
-    ∙ (front_again o replica limit (log ++ op ∷ []) first rest given (times ++ at ∷ []) at (still_late times at)
+pub front_again : (o : Option Owned) (replica limit : ℕ) (log first rest : List Op) (given : Given) (made : Made)
+    (at visit : ℕ) →
+    time_now at made.times ≡ at → IsDelivered (log ++ (first ++ rest)) →
+    replay_all (map (Delivered at visit) first) (bare o replica limit log given made)
+    ≡ Ok (bare o replica limit (log ++ first) given (making (length first) at visit made))
+front_again o replica limit log [] rest given made at visit late d =
+    ap₂ (λ (l : List Op) (m : Made). Ok (bare o replica limit l given m)) (sym (append-nil log)) (sym (none_more at visit made))
+front_again o replica limit log (op ∷ first) rest given made at visit late d =
+    ap (λ (m : Result Machine Refusal). fold replayed m (map (Delivered at visit) first))
+    (one_again o replica limit log given made at visit op late (again_at log op (first ++ rest) d))
+    ∙ (front_again o replica limit (log ++ op ∷ []) first rest given (making 1 at visit made) at visit
+    (still_late made.times at)
     (subst IsDelivered (sym (append_assoc log (op ∷ []) (first ++ rest))) d)
-    ∙ ap₂ (λ (l : List Op) (ts : List ℕ). Ok (bare o replica limit l given ts)) (append_assoc log (op ∷ []) first)
-    (one_more times at (length first)))
+    ∙ ap₂ (λ (l : List Op) (m : Made). Ok (bare o replica limit l given m)) (append_assoc log (op ∷ []) first)
+    (one_more made at visit (length first)))
 
 -- the time of now is not before the last one
 pub now_late : (clock : ℕ) (times : List ℕ) → time_now (time_now clock times) times ≡ time_now clock times
 now_late clock times = omega arith
 
--- if only the log, the times and the present visits have changed
-pub quiet : (old after : Machine) (more : List Op) → after.owned ≡ old.owned → after.replica ≡ old.replica →
-    after.presence.limit ≡ old.presence.limit → after.presence.given ≡ old.presence.given → Times old after →
+-- what is noted of a visit is noted of itself
+noted_twice : (visit : ℕ) → noted (noted visit) ≡ noted visit
+noted_twice visit = split (nat_lt visit 4294967296) (λ low. rw low (rw low refl)) (λ high. rw high refl)
+
+-- the last of items that end with the same one, more than once or once, is that one
+last_same : (otherwise : Option ℕ) (before : List ℕ) (x n : ℕ) →
+    last_or otherwise (before ++ replicate (suc n) x) ≡ Some x
+last_same otherwise [] x zero = refl
+last_same otherwise [] x (suc n) = last_same (Some x) [] x n
+last_same otherwise (y ∷ before) x n = last_same (Some y) before x n
+
+-- operations that were added in a visit are added in the one that the last of them shows
+pub shown_visit : (n at visit : ℕ) (made : Made) → making n at (last_visit (making n at visit made)) made ≡ making n at visit made
+shown_visit zero at visit made =
+    none_more at (last_visit (making 0 at visit made)) made ∙ sym (none_more at visit made)
+shown_visit (suc n) at visit made =
+    ap (λ v. making (suc n) at v made) last
+    ∙ ap (λ v. (let m : Made = record {
+      times = made.times ++ replicate (suc n) at;
+      visits = made.visits ++ replicate (suc n) v;
+    } in m)) (noted_twice visit)
+  where
+    last : last_visit (making (suc n) at visit made) ≡ noted visit
+    last = ap (λ (found : Option ℕ). unwrap_or found 0) (last_same None made.visits (noted visit) n)
+
+-- if only the log, what is known of its operations, and the present visits have changed
+pub quiet : (visit : ℕ) (old after : Machine) (more : List Op) → after.owned ≡ old.owned → after.replica ≡ old.replica →
+    after.presence.limit ≡ old.presence.limit → given_on after.presence ≡ given_on old.presence → Times visit old after →
     after.log ≡ old.log ++ more →
-    IsDelivered after.log → replay_all (map (Delivered (now_at old)) more) (restarted old) ≡ Ok (restarted after)
-quiet old after more owned replica limit given times grown d =
-    let later : old.times ++ replicate (length more) (now_at old) ≡ after.times =
-    sym (times ∙ ap (λ l. timed old.clock old.log l old.times) grown ∙ timed_more old.clock old.log more old.times) in
-    all_again old.owned old.replica old.presence.limit old.log more old.presence.given old.times (now_at old)
-    (now_late old.clock old.times) (subst IsDelivered grown d)
-    ∙ (ap₂ (λ (l : List Op) (ts : List ℕ). Ok (bare old.owned old.replica old.presence.limit l old.presence.given ts))
+    IsDelivered after.log → replay_all (map (Delivered (now_at old) (visit_at after)) more) (restarted old)
+    ≡ Ok (restarted after)
+quiet visit old after more owned replica limit given times grown d =
+    let is : making (length more) (now_at old) visit old.made ≡ after.made =
+    sym (times ∙ ap (λ l. timed old.clock visit old.log l old.made) grown ∙ timed_more old.clock visit old.log more old.made) in
+    let later : making (length more) (now_at old) (visit_at after) old.made ≡ after.made =
+    ap (λ (m : Made). making (length more) (now_at old) (last_visit m) old.made) (sym is)
+    ∙ shown_visit (length more) (now_at old) visit old.made ∙ is in
+    all_again old.owned old.replica old.presence.limit old.log more (given_on old.presence) old.made (now_at old)
+    (visit_at after)
+    (now_late old.clock old.made.times) (subst IsDelivered grown d)
+    ∙ (ap₂ (λ (l : List Op) (m : Made). Ok (bare old.owned old.replica old.presence.limit l (given_on old.presence) m))
     (sym grown) later
-    ∙ (ap (λ (o : Option Owned). Ok (bare o old.replica old.presence.limit after.log old.presence.given after.times))
+    ∙ (ap (λ (o : Option Owned). Ok (bare o old.replica old.presence.limit after.log (given_on old.presence) after.made))
     (sym owned)
-    ∙ (ap (λ (r : ℕ). Ok (bare after.owned r old.presence.limit after.log old.presence.given after.times)) (sym replica)
-    ∙ (ap (λ (n : ℕ). Ok (bare after.owned after.replica n after.log old.presence.given after.times)) (sym limit)
-    ∙ ap (λ (g : ℕ). Ok (bare after.owned after.replica after.presence.limit after.log g after.times)) (sym given)))))
+    ∙ (ap (λ (r : ℕ). Ok (bare after.owned r old.presence.limit after.log (given_on old.presence) after.made)) (sym replica)
+    ∙ (ap (λ (n : ℕ). Ok (bare after.owned after.replica n after.log (given_on old.presence) after.made)) (sym limit)
+    ∙ ap (λ (g : Given). Ok (bare after.owned after.replica after.presence.limit after.log g after.made)) (sym given)))))

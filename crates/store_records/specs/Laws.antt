@@ -1,5 +1,6 @@
 -- The laws of records and restarts.
 use Rattle.std.specs.Prelude.{◌≡◌, ℕ, ◌++◌, false, List, [], map, take, Some, Ok}
+use Rattle.op_log.specs.Made.{last_visit}
 use Rattle.pad_model.specs.declared.op.Op.{Op}
 use Rattle.pad_model.specs.declared.who.Who.{Who}
 use Rattle.sessions.specs.Session.{IsNamed}
@@ -31,12 +32,16 @@ pub record Left (who : Who) (request : Request) (cell : ℕ) (rooms : List Room)
 
 -- the time that an operation of a pad gets now
 abbrev pub now_at : Machine → ℕ
-now_at m = time_now m.clock m.times
+now_at m = time_now m.clock m.made.times
 
--- a pad that delivered operations, with the time of now
-abbrev pub grown_by : List Op → Machine → Machine
-grown_by more m =
-    record m { log = m.log ++ more; times = timed m.clock m.log (m.log ++ more) m.times }
+-- the visit in which the last operation of a pad was made, or 0: after a request, that of each operation that it delivered
+abbrev pub visit_at : Machine → ℕ
+visit_at m = last_visit m.made
+
+-- a pad that delivered operations, with the time of now, in a visit
+abbrev pub grown_by : ℕ → List Op → Machine → Machine
+grown_by visit more m =
+    record m { log = m.log ++ more; made = timed m.clock visit m.log (m.log ++ more) m.made }
 
 -- the records of a request are never refused, and lead from the restarted pad before it to the restarted pad after it,
 -- even if it was refused or out of memory, or a release was cut short
@@ -46,7 +51,7 @@ StepsLaw =
     (new : List Room)
     (after : Machine) (more : List Op) →
     Left who request cell rooms old answer new after more
-    → replay_all (records_of who request (now_at old) answer more)
+    → replay_all (records_of who request (now_at old) (visit_at after) answer more)
     (restarted old) ≡ Ok (restarted after)
 
 -- a request that may leave no records leaves none
@@ -56,7 +61,7 @@ IdleLaw =
     (new : List Room)
     (after : Machine) (more : List Op) →
     Left who request cell rooms old answer new after more → may_leave request ≡ false →
-    records_of who request (now_at old) answer more ≡ []
+    records_of who request (now_at old) (visit_at after) answer more ≡ []
 
 -- the end of a visit leaves a restarted pad unchanged
 abbrev pub DeparturesLaw : Type 0
@@ -78,7 +83,7 @@ pub data Life : ℕ → ℕ → List Record → Machine → Type 0 where
       (rooms : List Room)
       (old : Machine) (answer : Answer) (new : List Room) (after : Machine) (more : List Op) →
       Life replica present records old → Left who request cell rooms old answer new after more →
-      Life replica present (records ++ records_of who request (now_at old) answer more) after
+      Life replica present (records ++ records_of who request (now_at old) (visit_at after) answer more) after
   ticked : (replica present : ℕ) (records : List Record) (clock : ℕ) (m : Machine) →
       Life replica present records m → Life replica present records (tick clock m)
   left : (replica present : ℕ) (records : List Record) (name : List ℕ) (who : Who) (visit : ℕ)
@@ -107,8 +112,8 @@ pub data Had : ℕ → ℕ → List Record → Machine → List Record → Machi
       (old : Machine) (answer : Answer) (new : List Room) (after : Machine) (first rest : List Op) →
       Life replica present records old → Left who request cell rooms old answer new after
       (first ++ rest) →
-      Had replica present (records ++ records_of who request (now_at old) answer (first ++ rest)) after
-      (records ++ map (Delivered (now_at old)) first) (grown_by first old)
+      Had replica present (records ++ records_of who request (now_at old) (visit_at after) answer (first ++ rest)) after
+      (records ++ map (Delivered (now_at old) (visit_at after)) first) (grown_by (visit_at after) first old)
   earlier : (replica present : ℕ) (records : List Record) (who : Who) (request : Request) (cell : ℕ)
       (rooms : List Room)
       (old : Machine) (answer : Answer) (new : List Room) (after : Machine) (more : List Op)
@@ -116,7 +121,7 @@ pub data Had : ℕ → ℕ → List Record → Machine → List Record → Machi
       (m : Machine) →
       Had replica present records old before m
       → Left who request cell rooms old answer new after more →
-      Had replica present (records ++ records_of who request (now_at old) answer more) after before m
+      Had replica present (records ++ records_of who request (now_at old) (visit_at after) answer more) after before m
   unticked : (replica present : ℕ) (records : List Record) (clock : ℕ) (old : Machine)
       (before : List Record) (m : Machine) →
       Had replica present records old before m →

@@ -9,6 +9,7 @@ use Rattle.pad_core.specs.declared.request.Request.TheVariants as request
 -- takes an operation
 abbrev pub is_kept : Act → Bool
 is_kept act.Join = true
+is_kept (act.Rejoin old) = true
 is_kept (act.Grant grantee right) = true
 is_kept (act.Hand author) = true
 is_kept (act.Mark rev text) = true

@@ -1,5 +1,6 @@
 -- The records of a pad, and how it is rebuilt from them.
-use Rattle.std.specs.Prelude.{ℕ, List, [], ◌∷◌, map, fold, Option, Some, None, Result, Ok, Err}
+use Rattle.std.specs.Prelude.{ℕ, true, List, [], ◌∷◌, map, fold, Option, Some, None, Result, Ok, Err}
+use Rattle.op_log.specs.Made.{nothing_made}
 use Rattle.pad_model.specs.declared.op.Op.{Op}
 use Rattle.pad_model.specs.declared.refusal.Refusal.{Refusal}
 use Rattle.pad_model.specs.declared.who.Who.{Who}
@@ -17,12 +18,12 @@ use Rattle.store_records.specs.declared.kept_record.Record.TheVariants.{Named, G
 
 -- a record is applied to a pad
 abbrev pub replay : Record → Machine → Result (Unit {0}) Refusal × Machine
-replay (Named name owner) m = restore_claim name owner m
+replay (Named name owner visits) m = restore_claim name owner visits m
 replay (Granted grantee right) m = restore_grant grantee right m
 replay (Handed author) m = restore_hand author m
 replay (Marked named) m = restore_mark named m
-replay Visited m = restore_visit m
-replay (Delivered at op) m = restore_operation op at m
+replay (Visited author) m = restore_visit author m
+replay (Delivered at visit op) m = restore_operation op at visit m
 
 -- the pad after a record, unless it was refused
 abbrev pub unless_refused : Result (Unit {0}) Refusal × Machine → Result Machine Refusal
@@ -47,7 +48,7 @@ unnamed replica present = record {
   held = [];
   presence = nobody_present present;
   clock = 0;
-  times = [];
+  made = nothing_made;
 }
 
 -- the pad that records lead to from an unnamed pad
@@ -58,9 +59,9 @@ rebuilt replica present records = replay_all records (unnamed replica present)
 abbrev pub Answer : Type 0
 Answer = Result (Option Reply) Refusal
 
--- the record of a pad that was created: its name and owner
+-- the record of a pad that was created: its name and owner, and that visits are recorded
 abbrev pub claim_records : Who → List ℕ → Answer → List Record
-claim_records (Author owner) name (Ok (Some reply)) = Named name owner ∷ []
+claim_records (Author owner) name (Ok (Some reply)) = Named name owner true ∷ []
 claim_records who name answer = []
 
 -- the record of a revision that an author named at a time
@@ -73,18 +74,24 @@ mark_records (Author author) rev text at (Ok (Some reply)) = Marked (record {
 }) ∷ []
 mark_records who rev text at answer = []
 
--- the records of an act: a visit after a join, a right after a grant, an owner after a hand-over, a name of a revision,
--- and otherwise the operations that were delivered, at the time that they had
-abbrev pub act_records : Who → Act → ℕ → Answer → List Op → List Record
-act_records who act.Join at (Ok (Some reply)) more = Visited ∷ []
-act_records who (act.Grant grantee right) at (Ok (Some reply)) more = Granted grantee right ∷ []
-act_records who (act.Hand author) at (Ok (Some reply)) more = Handed author ∷ []
-act_records who (act.Mark rev text) at answer more = mark_records who rev text at answer
-act_records who other at answer more = map (Delivered at) more
+-- the record of a visit that an author began
+abbrev pub visit_records : Who → Answer → List Record
+visit_records (Author author) (Ok (Some reply)) = Visited (Some author) ∷ []
+visit_records who answer = []
 
--- the records of a request at a cell, by the time that operations had then, its answer, and the operations that it
--- delivered
-abbrev pub records_of : Who → Request → ℕ → Answer → List Op → List Record
-records_of who (request.Create name) at answer more = claim_records who name answer
-records_of who (request.On name act) at answer more = act_records who act at answer more
-records_of who other at answer more = []
+-- the records of an act: a visit after a join, a right after a grant, an owner after a hand-over, a name of a revision,
+-- and otherwise the operations that were delivered, at the time and in the visit that they had
+abbrev pub act_records : Who → Act → ℕ → ℕ → Answer → List Op → List Record
+act_records who act.Join at visit answer more = visit_records who answer
+act_records who (act.Rejoin old) at visit answer more = visit_records who answer
+act_records who (act.Grant grantee right) at visit (Ok (Some reply)) more = Granted grantee right ∷ []
+act_records who (act.Hand author) at visit (Ok (Some reply)) more = Handed author ∷ []
+act_records who (act.Mark rev text) at visit answer more = mark_records who rev text at answer
+act_records who other at visit answer more = map (Delivered at visit) more
+
+-- the records of a request at a cell, by the time that operations had then, their visit, its answer, and the operations
+-- that it delivered
+abbrev pub records_of : Who → Request → ℕ → ℕ → Answer → List Op → List Record
+records_of who (request.Create name) at visit answer more = claim_records who name answer
+records_of who (request.On name act) at visit answer more = act_records who act at visit answer more
+records_of who other at visit answer more = []

@@ -14,12 +14,16 @@ pub fn replay<S: Sequence>(alloc: Global, pad: &mut Pad<S>, kept: Record) -> Res
     ensures { Answers pad.old (records_spec.replay kept pad.old) result pad.new }
 {
     match kept {
-        Record::Named { name, owner } => pad.restore_claim(alloc, &name, &owner),
+        Record::Named {
+            name,
+            owner,
+            visits,
+        } => pad.restore_claim(alloc, &name, &owner, visits),
         Record::Granted { grantee, right } => pad.restore_grant(&grantee, right),
         Record::Handed { author } => pad.restore_hand(&author),
         Record::Marked { named } => pad.restore_mark(&named),
-        Record::Visited => pad.restore_visit(alloc),
-        Record::Delivered { at, op } => pad.restore_operation(alloc, op, at),
+        Record::Visited { author } => pad.restore_visit(alloc, author.as_ref()),
+        Record::Delivered { at, visit, op } => pad.restore_operation(alloc, op, at, visit),
     }
 }
 

@@ -23,6 +23,7 @@ fn is_kept(act: &Act) -> bool
 {
     match act {
         Act::Join
+        | Act::Rejoin { .. }
         | Act::Grant { .. }
         | Act::Hand { .. }
         | Act::Mark { .. }

@@ -1,6 +1,6 @@
 //! The records that a request at a cell leaves.
 ghost use Rattle.std.specs.Prelude.{◌≡◌, [], ◌∷◌, IfOk, map};
-ghost use Rattle.store_records.specs.Records.{act_records, claim_records, mark_records};
+ghost use Rattle.store_records.specs.Records.{act_records, claim_records, mark_records, visit_records};
 ghost use Rattle.store_records.specs.Records as records_spec;
 ghost use Rattle.store_records.specs.declared.kept_record.Record.TheVariants as variant;
 
@@ -10,22 +10,23 @@ use pad_core::{Act, Reply, Request};
 use pad_model::{Name, Op, Refusal, Text, Who};
 use std::alloc::{AllocError, Global};
 
-/// Returns the records of a request at a cell, given the time that operations had then, its answer, and the operations
-/// that it delivered.
+/// Returns the records of a request at a cell, given the time that operations had then, their visit, the answer, and the
+/// operations that it delivered.
 pub fn records_of(
     alloc: Global,
     who: &Who,
     request: &Request,
     at: u64,
+    visit: u64,
     answer: &Result<Option<Reply>, Refusal>,
     more: &[Op],
 ) -> Result<Vec<Record>, AllocError>
     ensures { IfOk result (λ records. records.items
-        ≡ records_spec.records_of who.now request.now at answer.now more.now) }
+        ≡ records_spec.records_of who.now request.now at visit answer.now more.now) }
 {
     match request {
         Request::Create { pad } => records_of_claim(alloc, who, pad, answer),
-        Request::On { act, .. } => records_of_act(alloc, who, act, at, answer, more),
+        Request::On { act, .. } => records_of_act(alloc, who, act, at, visit, answer, more),
         Request::Hello { .. } | Request::Peer { .. } | Request::Pads | Request::People { .. } => Ok(
             Vec::new(alloc),
         ),
@@ -45,6 +46,7 @@ fn records_of_claim(
         records.push(Record::Named {
             name: pad.clone()?,
             owner: owner.clone()?,
+            visits: true,
         })?;
     }
     Ok(records)
@@ -55,13 +57,14 @@ fn records_of_act(
     who: &Who,
     act: &Act,
     at: u64,
+    visit: u64,
     answer: &Result<Option<Reply>, Refusal>,
     more: &[Op],
 ) -> Result<Vec<Record>, AllocError>
-    ensures { IfOk result (λ records. records.items ≡ act_records who.now act.now at answer.now more.now) }
+    ensures { IfOk result (λ records. records.items ≡ act_records who.now act.now at visit answer.now more.now) }
 {
     match (act, answer) {
-        (Act::Join, Ok(Some(_))) => one(alloc, Record::Visited),
+        (Act::Join | Act::Rejoin { .. }, _) => records_of_visit(alloc, who, answer),
         (Act::Grant { grantee, right }, Ok(Some(_))) => one(
             alloc,
             Record::Granted {
@@ -76,8 +79,22 @@ fn records_of_act(
             },
         ),
         (Act::Mark { rev, text }, _) => records_of_mark(alloc, who, *rev, text, at, answer),
-        _ => delivered(alloc, at, more),
+        _ => delivered(alloc, at, visit, more),
     }
+}
+
+fn records_of_visit(
+    alloc: Global,
+    who: &Who,
+    answer: &Result<Option<Reply>, Refusal>,
+) -> Result<Vec<Record>, AllocError>
+    ensures { IfOk result (λ records. records.items ≡ visit_records who.now answer.now) }
+{
+    let (Who::Author(visitor), Ok(Some(_))) = (who, answer) else {
+        return Ok(Vec::new(alloc));
+    };
+    let author = Some(visitor.clone()?);
+    one(alloc, Record::Visited { author })
 }
 
 fn records_of_mark(
@@ -111,13 +128,13 @@ fn one(alloc: Global, kept: Record) -> Result<Vec<Record>, AllocError>
     Ok(records)
 }
 
-fn delivered(alloc: Global, at: u64, more: &[Op]) -> Result<Vec<Record>, AllocError>
-    ensures { IfOk result (λ records. records.items ≡ map (variant.Delivered at) more.now) }
+fn delivered(alloc: Global, at: u64, visit: u64, more: &[Op]) -> Result<Vec<Record>, AllocError>
+    ensures { IfOk result (λ records. records.items ≡ map (variant.Delivered at visit) more.now) }
 {
     let mut records = Vec::new(alloc);
     for op in more {
         let op = op.clone()?;
-        records.push(Record::Delivered { at, op })?;
+        records.push(Record::Delivered { at, visit, op })?;
     }
     Ok(records)
 }

@@ -150,6 +150,7 @@ fn note_of(alloc: Global, author: &str) -> Result<Note, AllocError> {
     records.push(Record::Named {
         name: Name::from_str(alloc, "p")?,
         owner: Name::from_str(alloc, author)?,
+        visits: true,
     })?;
     Ok(Note { at: 0, records })
 }

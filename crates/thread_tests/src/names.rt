@@ -45,12 +45,7 @@ impl Gate for Steps {
 
     ghost announced = { λ _ _ _. ⊤ };
 
-    fn answered<S: Sequence>(
-        &self,
-        _alloc: Global,
-        _answered: Answered<'_>,
-        _pad: &LockedPad<S>,
-    ) {}
+    fn answered<S: Sequence>(&self, _alloc: Global, _answered: Answered<'_>, _pad: &LockedPad<S>) {}
 
     fn reads_operations(&self) -> bool {
         false

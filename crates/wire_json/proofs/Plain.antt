@@ -139,6 +139,8 @@ pad_of (pad.Vector now seen) =
 pad_of (pad.Pulled now ops) =
     let all = each_of op_data 5 op_plain ops in
     record { floatless = rw all.floatless refl; shallow = omega (arith, all.shallow) }
+pad_of (pad.Rejoined now visit made None) = record { floatless = refl; shallow = lit≤ tt }
+pad_of (pad.Rejoined now visit made (Some name)) = record { floatless = refl; shallow = lit≤ tt }
 pad_of other = record { floatless = refl; shallow = lit≤ tt }
 
 reply_of : (said : Reply) → IsPlain 7 (reply_data said)

@@ -1,13 +1,14 @@
 -- How replies are written.
 use Rattle.std.specs.Prelude.{ℕ, List, [], ◌∷◌, ◌++◌, codes, true, false, Result, Ok, Err, ◌≡◌, ◌≤◌, Option, Some, None}
 use Rattle.std.specs.List.{AllByRecursion}
-use Rattle.serde_json.specs.Data.{Data, boolean, string}
+use Rattle.serde_json.specs.Data.{Data, boolean, null, string}
 use Rattle.serde_json.specs.Read.{read}
 use Rattle.serde_json.specs.Written.{compact_text}
 use Rattle.comments.specs.declared.show.Shown.{Shown}
 use Rattle.rights.specs.declared.book.Grant.{Grant}
 use Rattle.named_revisions.specs.declared.named_revision.NamedRevision.{NamedRevision}
 use Rattle.pad_model.specs.Refusals.{code_of, name_of}
+use Rattle.pad_model.specs.declared.op.OpName.{OpName}
 use Rattle.pad_model.specs.declared.piece.Piece.{Piece}
 use Rattle.pad_model.specs.declared.piece.Piece.TheVariants as piece
 use Rattle.pad_model.specs.declared.refusal.Refusal.{Refusal}
@@ -93,10 +94,18 @@ answer fields = fields_data ((codes "ok", boolean true) ∷ fields)
 abbrev pub pad_answer : ℕ → List Field → Data
 pad_answer now fields = answer ((codes "now", number_data now) ∷ fields)
 
+-- the name of an operation, if there is one
+abbrev pub last_data : Option OpName → Data
+last_data None = null
+last_data (Some name) = op_name_data name
+
 -- a pad's reply; that it has another name is never a server's reply
 abbrev pub pad_data : PadReply → Data
 pad_data pad.Elsewhere = answer []
 pad_data (pad.Joined now visit) = pad_answer now ((codes "visit", number_data visit) ∷ [])
+pad_data (pad.Rejoined now visit made last) =
+    pad_answer now ((codes "last", last_data last) ∷ (codes "made", number_data made)
+    ∷ (codes "visit", number_data visit) ∷ [])
 pad_data (pad.Done now) = pad_answer now []
 pad_data (pad.Made now name) = pad_answer now ((codes "name", op_name_data name) ∷ [])
 pad_data (pad.Changed now name hidden) =

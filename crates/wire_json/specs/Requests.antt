@@ -88,9 +88,14 @@ times_of false d =
     of_three act.Times (field number_in (codes "from") d) (field number_in (codes "step") d)
     (field number_in (codes "count") d)
 
+-- a join, instead of an old visit where one is named
+abbrev pub joining : Option ℕ → Act
+joining None = act.Join
+joining (Some old) = act.Rejoin old
+
 -- the act that its word names, from the fields that it takes
 abbrev pub act_of : ActWord → Data → Option Act
-act_of act_word.Join d = Some act.Join
+act_of act_word.Join d = option_map joining (optional number_in (codes "instead") d)
 act_of act_word.Leave d = Some act.Leave
 act_of act_word.Insert d =
     of_three act.Insert (field number_in (codes "rev") d) (field number_in (codes "at") d)

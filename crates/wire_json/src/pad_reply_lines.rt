@@ -9,11 +9,11 @@ use crate::number_lines::{
     changed_line, done_line, ended_line, joined_line, made_line, pushed_line, revs_line,
 };
 use crate::value_lines::value_line;
-use crate::write_forms::{author_value, seen_value, text_value};
+use crate::write_forms::{author_value, op_name_value, seen_value, text_value};
 use comments::Shown;
 use named_revisions::NamedRevision;
 use pad_core::{LogEntry, PadReply, Present};
-use pad_model::{Author, AuthorRun, Op, Piece, Seen, Text};
+use pad_model::{Author, AuthorRun, Op, OpName, Piece, Seen, Text};
 use rights::Grant;
 use serde_json::{Value, json};
 use std::alloc::{AllocError, Global};
@@ -25,6 +25,16 @@ pub fn pad_line(alloc: Global, reply: &PadReply) -> Result<String, AllocError>
     match reply {
         PadReply::Elsewhere => ended_line(alloc),
         PadReply::Joined { now, visit } => joined_line(alloc, *now, *visit),
+        PadReply::Rejoined {
+            now,
+            visit,
+            made,
+            last,
+        } => said_line(
+            alloc,
+            reply,
+            rejoined_value(alloc, *now, *visit, *made, *last),
+        ),
         PadReply::Done { now } => done_line(alloc, *now),
         PadReply::Made { now, name } => made_line(alloc, *now, name.origin, name.number),
         PadReply::Changed { now, name, hidden } => {
@@ -122,6 +132,22 @@ fn answer_at(
     ensures { IfOk result (λ v. view v ≡ pad_answer now ((codes "rev", number_data rev) ∷ (key.now, view value) ∷ [])) }
 {
     json!(in alloc; {"ok": true, "now": now, "rev": rev, key: value})
+}
+
+fn rejoined_value(
+    alloc: Global,
+    now: u64,
+    visit: u64,
+    made: u64,
+    last: Option<OpName>,
+) -> Result<Value, AllocError>
+    ensures { IfOk result (λ v. view v ≡ pad_data (PadReply.Rejoined now visit made last)) }
+{
+    let last = match last {
+        Some(name) => op_name_value(alloc, name)?,
+        None => Value::Null,
+    };
+    json!(in alloc; {"last": last, "made": made, "now": now, "ok": true, "visit": visit})
 }
 
 fn read_value(alloc: Global, now: u64, rev: u64, text: &Text) -> Result<Value, AllocError>

@@ -218,6 +218,15 @@ fn read_text(value: &Value) -> Result<Act, Refusal>
     Ok(Act::Text { rev })
 }
 
+fn read_join(value: &Value) -> Result<Act, Refusal>
+    ensures { IsForm (act_of ActWord.Join (view value.now)) result }
+{
+    Ok(match optional_number_field(value, "instead")? {
+        Some(old) => Act::Rejoin { old },
+        None => Act::Join,
+    })
+}
+
 fn read_runs(value: &Value) -> Result<Act, Refusal>
     ensures { IsForm (act_of ActWord.Runs (view value.now)) result }
 {
@@ -237,7 +246,7 @@ pub fn read_act(alloc: Global, word: ActWord, value: &Value) -> Result<Act, Refu
     ensures { IsRead (act_of word (view value.now)) result }
 {
     match word {
-        ActWord::Join => Ok(Act::Join),
+        ActWord::Join => read_join(value),
         ActWord::Leave => Ok(Act::Leave),
         ActWord::Insert => read_insert(alloc, value),
         ActWord::Delete => read_delete(value),

@@ -67,6 +67,20 @@ const ACTS: &[(Sample, &str)] = &[
         concat!(r#"{"now":0,"ok":true,"visit":1}"#, "\n"),
     ),
     (
+        Sample::Rejoined(0),
+        concat!(
+            r#"{"last":null,"made":0,"now":4,"ok":true,"visit":3}"#,
+            "\n"
+        ),
+    ),
+    (
+        Sample::Rejoined(5),
+        concat!(
+            r#"{"last":[1,2],"made":5,"now":4,"ok":true,"visit":3}"#,
+            "\n"
+        ),
+    ),
+    (
         Sample::Done,
         concat!(r#"{"now":18446744073709551615,"ok":true}"#, "\n"),
     ),

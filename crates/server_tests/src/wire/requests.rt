@@ -41,6 +41,14 @@ const REQUESTS: &[(&str, &str)] = &[
         r#"On { pad: Name { text: "p" }, act: Join }"#,
     ),
     (
+        r#"{"do":"join","pad":"p","instead":null}"#,
+        r#"On { pad: Name { text: "p" }, act: Join }"#,
+    ),
+    (
+        r#"{"do":"join","pad":"p","instead":17}"#,
+        r#"On { pad: Name { text: "p" }, act: Rejoin { old: 17 } }"#,
+    ),
+    (
         r#"{"do":"leave","pad":"p"}"#,
         r#"On { pad: Name { text: "p" }, act: Leave }"#,
     ),

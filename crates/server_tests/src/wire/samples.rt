@@ -18,6 +18,8 @@ pub enum Sample {
     Refused(Refusal),
     Elsewhere,
     Joined,
+    /// After an old visit that made so many operations.
+    Rejoined(u64),
     Done,
     Made,
     Changed,
@@ -86,6 +88,12 @@ fn numbers_told(sample: Sample) -> PadReply {
     };
     match sample {
         Sample::Joined => PadReply::Joined { now: 0, visit: 1 },
+        Sample::Rejoined(made) => PadReply::Rejoined {
+            now: 4,
+            visit: 3,
+            made,
+            last: if made == 0 { None } else { Some(name) },
+        },
         Sample::Done => PadReply::Done { now: u64::MAX },
         Sample::Made => PadReply::Made { now: 2, name },
         Sample::Changed => PadReply::Changed {

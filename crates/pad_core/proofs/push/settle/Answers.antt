@@ -9,7 +9,7 @@ pub loop-n-init : goal.loop-n-init
 loop-n-init g c = record {
   done = refl;
   checked = c.requires.held;
-  times = refl;
+  made = refl;
   grown = omega arith;
   room = c.requires.room;
 }
@@ -55,7 +55,7 @@ loop-n-preserved g c = record {
       (delivery c.release.new.released c.release.new.ledger c.release.new.held)
       c.loop-n.invariant.done c.in_ok-release.ensures.ok;
   checked = c.release.ensures.held;
-  times = c.release.ensures.times ∙ c.loop-n.invariant.times;
+  made = c.release.ensures.made ∙ c.loop-n.invariant.made;
   grown = let before = c.loop-n.invariant.grown in let more = c.release.ensures.grown in omega arith;
   room = c.release.ensures.room;
 }

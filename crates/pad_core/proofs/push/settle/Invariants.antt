@@ -10,7 +10,7 @@ abbrev pub invariant-loop-n : goal.invariant-loop-n
 invariant-loop-n g l = record {
   done : delivery l.released l.ledger l.held ≡ steps l._n (unsettled (l.initial.ledger, l.initial.held));
   checked : AreChecked l.held;
-  times : l.times.times ≡ l.initial.times.times;
+  made : l.made.made ≡ l.initial.made.made;
   grown : length l.initial.ledger ≤ length l.ledger;
-  room : length l.ledger ≤ l.times.room;
+  room : length l.ledger ≤ l.made.room;
 }

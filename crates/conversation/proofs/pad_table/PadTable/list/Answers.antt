@@ -1,8 +1,9 @@
-use Rattle.std.proofs.Common.{◌++◌, ◌+◌, ◌∷◌, [], sym, ap, ◌∙◌, append-nil}
+use Rattle.std.proofs.Common.{inl, ◌++◌, ◌+◌, ◌∷◌, [], sym, ap, ◌∙◌, append-nil}
 use Rattle.std.proofs.lemmas.List.{length_push}
 use Rattle.server_core.proofs.Named.{each-append}
 use Rattle.shared_pads.specs.LockedPad.{CanBe}
 use Rattle.pad_core.specs.Listing.{one_or_none}
+use Rattle.pad_core.proofs.Exits.{passed_on}
 use Rattle.conversation.proofs.RowListings.{told_more}
 use Rattle.conversation.proofs.pad_table.PadTable.list.Goals.{in-Some+in_ok-push, in_default}
 use Rattle.conversation.proofs.pad_table.PadTable.list.Goals as goal
@@ -23,3 +24,7 @@ loop-cell-preserved g c =
             ∙ ap (λ t. c.loop-cell.pads ++ one_or_none t) (sym w.in_default.is) ∙ more
       ];
     }
+
+pub returns-in_err-push : goal.returns-in_err-push
+returns-in_err-push g c =
+    inl (passed_on c.from_residual-in_err-push.result c.from_residual-in_err-push.ensures.1)

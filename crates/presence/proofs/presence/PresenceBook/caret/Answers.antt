@@ -11,7 +11,7 @@ returns-in_default c =
     let es = c.self.inside.visitors.entries in
     let absent = present_where_found c.args.visit es ∙ sym (ap is_some c.get_mut.ensures.value)
     ∙ ap (λ r. is_some (option_copied_mut r)) c.in_default.is in
-    refused c.args.visit c.self.inside.limit c.self.inside.given (visits_of es) _ (with_caret c.args.caret) _ c.self.view_is absent
+    refused c.args.visit c.self.inside.limit c.self.inside.given (visits_of es) _ c.self.inside.authors (with_caret c.args.caret) _ c.self.view_is absent
     (ap (λ m. visits_of m.entries) c.get_mut.follows.holds-at-none)
 
 pub invariant_of-self-2 : goal.invariant_of-self-2
@@ -26,6 +26,7 @@ invariant_of-self-2 c =
       numbered = subst (λ (vs : List Visit). AreNumbered c.self.inside.given vs) (sym kept)
           (caret_numbered c.args.caret c.self.inside.given c.args.visit _ i.numbered);
       spent = i.spent;
+      counted = i.counted;
     }
 
 pub returns : goal.returns
@@ -35,5 +36,5 @@ returns c =
     let at = sym c.get_mut.ensures.value ∙ ap option_copied_mut c.in-Some.is in
     let kept = ap visits_of wrote.0 ∙ caret_entries c.args.caret c.self.inside.given c.args.visit es
     c.in-Some.visitor.now c.self.invariant.numbered at in
-    done c.args.visit c.self.inside.limit c.self.inside.given (visits_of es) _ (with_caret c.args.caret) _ c.self.view_is
+    done c.args.visit c.self.inside.limit c.self.inside.given (visits_of es) _ c.self.inside.authors (with_caret c.args.caret) _ c.self.view_is
     (present_where_found c.args.visit es ∙ ap is_some at) kept

@@ -10,7 +10,7 @@ returns-in_default c =
     let es = c.self.inside.visitors.entries in
     let absent = present_where_found c.args.visit es ∙ sym (ap is_some c.shift_remove.ensures.value)
     ∙ ap is_some c.in_default.is in
-    refused c.args.visit c.self.inside.limit c.self.inside.given (visits_of es) _ left _ c.self.view_is absent
+    refused c.args.visit c.self.inside.limit c.self.inside.given (visits_of es) _ c.self.inside.authors left _ c.self.view_is absent
     (ap visits_of c.in_default.ensures.unchanged)
 
 pub invariant_of-self-2 : goal.invariant_of-self-2
@@ -22,6 +22,7 @@ invariant_of-self-2 c =
       numbered = subst (λ (vs : List Visit). AreNumbered c.self.inside.given vs) (sym left)
           (left_numbered c.self.inside.given c.args.visit _ i.numbered);
       spent = i.spent;
+      counted = i.counted;
     }
 
 pub returns : goal.returns
@@ -31,4 +32,4 @@ returns c =
     ∙ ap is_some c.in-Some.is in
     let gone = ap visits_of c.shift_remove.ensures.entries
     ∙ left_entries c.self.inside.given c.args.visit es c.self.invariant.numbered in
-    done c.args.visit c.self.inside.limit c.self.inside.given (visits_of es) _ left _ c.self.view_is there gone
+    done c.args.visit c.self.inside.limit c.self.inside.given (visits_of es) _ c.self.inside.authors left _ c.self.view_is there gone

@@ -10,6 +10,7 @@ import threading
 import time
 
 from harness import Case, Failed, Test, put_files, want
+from sample_pad import WHOLE
 from sockets import ACCOUNTS, LISTEN, NAMES, Server
 
 STORE = "--store kept"
@@ -97,6 +98,52 @@ def all_comes_back():
     cid.wants({"do": "insert", "pad": "p", "rev": 4, "at": 0, "text": "x"}, {"code": 312, "error": "Denied", "ok": False})
     answer = ann.does(do="insert", pad="p", rev=4, at=0, text="next")
     want(answer["name"], [1, 5], "the name of the next operation")
+    kill(server)
+
+
+def again(client, instead, **told):
+    """Joins instead of a visit, is told this, and leaves."""
+    want(client.ask(do="join", pad="p", instead=instead), told, f"who joins instead of visit {instead}")
+    if told["ok"]:
+        client.does(do="leave", pad="p")
+
+
+def visits_come_back():
+    """Who joins instead of a visit from before the server was killed learns what that made."""
+    server = restarted()
+    ann = server.author("ann")
+    ann.does(do="create", pad="p")
+    ann.does(do="grant", pad="p", author="bob", right="write")
+    bob = server.author("bob", "p")
+    ann.does(do="insert", pad="p", rev=0, at=0, text="one")
+    bob.does(do="insert", pad="p", rev=1, at=0, text="two")
+    ann.does(do="comment", pad="p", rev=2, at=0, len=3, text="why?")
+    kill(server)
+    want([text.get("author") for text in lines_of("p") if text.get("kind") == "visited"], ["bob"], "whose visits are recorded")
+    want([text["visit"] for text in lines_of("p") if text.get("kind") == "delivered"], [1, 2, 1], "the visits of the operations")
+    server = restarted()
+    ann, bob = server.author("ann"), server.author("bob")
+    again(ann, 1, ok=True, now=3, visit=3, made=2, last=[1, 3])
+    again(ann, 2, ok=False, code=329, error="NoVisit")
+    again(ann, 4, ok=False, code=329, error="NoVisit")
+    again(ann, 3, ok=True, now=3, visit=4, made=0, last=None)
+    again(bob, 2, ok=True, now=3, visit=5, made=1, last=[1, 2])
+    kill(server)
+
+
+def visits_of_an_earlier_version():
+    """A file of an earlier version says neither whose a visit was nor what was made in it: nobody can join instead of it."""
+    os.mkdir("kept")
+    with open("kept/p.pad", "wb") as file:
+        file.write(WHOLE)
+    server = restarted()
+    ann = server.author("ann")
+    for visit in (1, 2):
+        again(ann, visit, ok=False, code=329, error="NoVisit")
+    want(ann.join("p"), 3, "the visit that is given next")
+    ann.does(do="insert", pad="p", rev=5, at=0, text="x")
+    ann.does(do="leave", pad="p")
+    again(ann, 3, ok=True, now=6, visit=4, made=1, last=[1, 6])
     kill(server)
 
 
@@ -259,6 +306,8 @@ def killed_under_writers():
 TESTS = [
     Case("a store needs connections", "--stdin --store kept --replica 1", status=2, stderr="pad_server: --store <DIR> needs --listen <ADDR>\n").test(),
     Test("store: all comes back", all_comes_back),
+    Test("store: visits come back", visits_come_back),
+    Test("store: visits of an earlier version", visits_of_an_earlier_version),
     Test("store: private files", private_files),
     Test("store: several pads", several_pads),
     Test("store: another process", in_use),

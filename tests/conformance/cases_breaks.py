@@ -56,7 +56,9 @@ async def an_unanswered_edit_that_was_lost_is_sent_again(play: Play) -> None:
 
 @case
 async def an_unanswered_edit_that_comes_late_is_not_sent_again(play: Play) -> None:
-    """The old connection still delivers it, after the client is there again. Until the old visit is gone from `who`, it can."""
+    """A server of an earlier version: the old connection still delivers it, after the client is there again. Until the old visit
+    is gone from `who`, it can."""
+    play.server.model.knows_visits = False
     await play.begin("text")
     old = play.link
     release = old.hold(is_edit)
@@ -70,6 +72,22 @@ async def an_unanswered_edit_that_comes_late_is_not_sent_again(play: Play) -> No
     release()
     old.end()
     await play.agrees("in the end", "textual", AGAIN)
+
+
+@case
+async def an_edit_that_a_network_holds_has_no_effect_any_more(play: Play) -> None:
+    """The client joins instead of its old visit, and sends the edit again, without waiting for the old connection's end."""
+    await play.begin("text")
+    old = play.link
+    release = old.hold(is_edit)
+    await play.client.type(4, "ual")
+    await play.asks_to_edit()
+    old.cut(is_noticed=False)
+    await play.agrees("the edit is there", "textual", AGAIN)
+    release()
+    play.bob(0, "con")
+    await play.agrees("what came late is refused", "contextual", AGAIN)
+    old.end()
 
 
 @case

@@ -14,7 +14,7 @@ NEEDS = {"insert": "write", "delete": "write", "edit": "write", "comment": "comm
 NAMES = {
     101: "NotJson", 102: "NotRequest", 200: "NoSession", 201: "BadToken", 202: "HaveSession", 300: "NoPad", 301: "PadExists",
     303: "BadName", 310: "NotJoined", 311: "Joined", 312: "Denied", 313: "Crowded", 320: "NoRevision", 321: "OutOfRange",
-    322: "Empty", 323: "TooMuch", 326: "NoComment", 900: "Memory", 901: "StoreFull", 902: "Full",
+    322: "Empty", 323: "TooMuch", 326: "NoComment", 329: "NoVisit", 900: "Memory", 901: "StoreFull", 902: "Full",
 }
 MOST = {"edit": 10_000, "comment": 2_000, "parts": 16, "entries": 100, "times": 1_000, "moments": 100, "wait": 60, "marks": 200, "mark": 100}
 NAME = re.compile(r"[a-z0-9-]{1,32}")
@@ -50,7 +50,7 @@ PAD = {"pad": is_text}
 REV = {**PAD, "rev": is_number}
 FORMS: dict[str, dict[str, Callable[[Any], bool]]] = {
     "hello": {"name": is_text, "token": is_text}, "pads": {},
-    **{do: PAD for do in ("create", "join", "leave", "revs", "who", "rights", "marks")},
+    **{do: PAD for do in ("create", "leave", "revs", "who", "rights", "marks")}, "join": {**PAD, "instead": is_absent_or_number},
     "insert": {**REV, "at": is_number, "text": is_text}, "delete": {**REV, "at": is_number, "len": is_number},
     "edit": {**REV, "parts": lambda value: isinstance(value, list) and all(map(is_part, value))},
     "comment": {**REV, "at": is_number, "len": is_number, "text": is_text}, "resolve": {**PAD, "comment": is_name},
@@ -97,21 +97,36 @@ class Visitor:
 
 
 @dataclass
+class Given:
+    """A visit, present or not: whose it is, how many operations it made, and the name of the last one."""
+
+    author: str
+    made: int = 0
+    last: list[int] | None = None
+
+
+@dataclass
 class Room:
-    """A pad, who is there by their visits, who has which right, and the names of revisions."""
+    """A pad, its visits, who is there by these, who has which right, and the names of revisions."""
 
     pad: ModelPad
     rights: dict[str, str]
-    visits: int = 0
+    given: list[Given] = field(default_factory=list)
     present: dict[int, Visitor] = field(default_factory=dict)
     marks: list[Request] = field(default_factory=list)
 
+    def visit(self, number: int) -> Given:
+        """A visit, or nobody's if the number was never given out."""
+        return self.given[number - 1] if 0 < number <= len(self.given) else Given("")
+
 
 class ModelServer:
-    """A token is `t` and the author's name. `most_present` is how many may be on a pad at once."""
+    """A token is `t` and the author's name. `most_present` is how many may be on a pad at once. A server that does not know
+    visits is of an earlier version, and ignores `instead`."""
 
     def __init__(self, most_present: int = 64) -> None:
         self.most_present = most_present
+        self.knows_visits = True
         self.replica = 1
         self.rooms: dict[str, Room] = {}
         self.sessions: set[Session] = set()
@@ -181,13 +196,16 @@ class ModelServer:
     def _create(self, session: Session, author: str, name: str) -> Request:
         room = self.rooms[name] = Room(ModelPad(), {author: "own"})
         room.pad.replica = self.replica
-        return self._join(session, author, name, room)
+        return self._join(session, author, name, room, None)
+
+    def _is_in(self, session: Session, name: str, room: Room) -> bool:
+        return session.visits.get(name) in room.present
 
     def _on_pad(self, session: Session, author: str, name: str, room: Room, request: Request) -> Request:
         do = request["do"]
         if do == "join":
-            return self._join(session, author, name, room)
-        if name not in session.visits:
+            return self._join(session, author, name, room, request.get("instead") if self.knows_visits else None)
+        if not self._is_in(session, name, room):
             return refuse(310)
         if do == "leave":
             room.present.pop(session.visits.pop(name), None)
@@ -196,17 +214,23 @@ class ModelServer:
             return refuse(312)
         return self._refusal(room, request) or self._answer(session, author, room, request)
 
-    def _join(self, session: Session, author: str, name: str, room: Room) -> Request:
+    def _join(self, session: Session, author: str, name: str, room: Room, instead: int | None) -> Request:
+        """The old visit ends, whichever session has it."""
         if name in session.visits:
-            return refuse(311)
+            return refuse(311 if self._is_in(session, name, room) else 310)
         if not self.may(author, room, "read"):
             return refuse(312)
-        if len(room.present) >= self.most_present:
+        old = None if instead is None else room.visit(instead)
+        if old and old.author != author:
+            return refuse(329)
+        if len(room.present) - (old is not None and instead in room.present) >= self.most_present:
             return refuse(313)
-        room.visits += 1
-        session.visits[name] = room.visits
-        room.present[room.visits] = Visitor(author)
-        return {"ok": True, "now": room.pad.now, "visit": room.visits}
+        room.present.pop(instead or 0, None)
+        room.given.append(Given(author))
+        visit = session.visits[name] = len(room.given)
+        room.present[visit] = Visitor(author)
+        told = {"made": old.made, "last": old.last} if old else {}
+        return {"ok": True, "now": room.pad.now, "visit": visit, **told}
 
     def _refusal_of_times(self, now: int, request: Request) -> Request | None:
         if "at" in request:
@@ -275,8 +299,15 @@ class ModelServer:
             room.present[visit].caret = pad.at(request["rev"])[request["at"] - 1] if request["at"] else None
             answer = {}
         else:
-            return pad.reply(self.author(author), request)
+            return self._noted(room.given[visit - 1], pad.reply(self.author(author), request))
         return {"ok": True, "now": pad.now, **answer}
+
+    @staticmethod
+    def _noted(visit: Given, reply: Request) -> Request:
+        """An answer with a name is that of an operation."""
+        if reply["ok"] and "name" in reply:
+            visit.made, visit.last = visit.made + 1, reply["name"]
+        return reply
 
     def _hand(self, room: Room, owner: str, heir: str) -> None:
         """The heir is listed first, and the owner before it last, with the right to write."""

@@ -86,7 +86,7 @@ class Connection:
 
     def answer(self, request: Request) -> None:
         reply = self.server.scripted(request) or self.server.model.reply(self.session, request)
-        if reply.get("code") in FAULTS and not self.server.is_lenient:
+        if reply.get("code") in FAULTS and not self.server.is_lenient and not self.is_kept:
             self.server.faults.append(f"{request} is {reply['code']}")
         if reply["ok"] and is_edit(request):
             self.server.made.append(request)

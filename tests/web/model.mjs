@@ -60,8 +60,10 @@ export class ModelPad {
 
   resolve(author, name) {
     const remark = this.remarks.find((one) => one.name.join() === name.join());
-    this.note(author, "resolve");
+    if (!remark) return null; // a store that was restored has lost it
+    const made = this.note(author, "resolve");
     remark.resolved ||= this.now;
+    return made;
   }
 
   // The comments of a revision. Their words are what is shown from the first to the last of their characters.
@@ -128,7 +130,10 @@ export class ModelPad {
       case "delete": return made(this.edit(author, rev, [{ at, len }]));
       case "edit": return made(this.edit(author, rev, request.parts));
       case "comment": return made(this.remark(author, rev, at, len, text));
-      case "resolve": this.resolve(author, request.comment); return made();
+      case "resolve": {
+        const name = this.resolve(author, request.comment);
+        return name ? made(name) : { ok: false, code: 326, error: "NoComment" };
+      }
       case "changes": {
         const notes = this.entries.slice(rev, to).filter(({ kind }) => ["comment", "resolve"].includes(kind)).length;
         return { ok: true, now: this.now, rev, to, notes, changes: this.changes(rev, to) };

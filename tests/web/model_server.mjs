@@ -6,18 +6,20 @@ const EDITS = ["insert", "delete", "edit"];
 const NEEDS = { insert: "write", delete: "write", edit: "write", comment: "comment", resolve: "comment", grant: "own", hand: "own", join: "read" };
 const REFUSALS = {
   101: "NotJson", 200: "NoSession", 201: "BadToken", 300: "NoPad", 301: "PadExists", 310: "NotJoined", 311: "Joined", 312: "Denied",
-  313: "Crowded", 320: "NoRevision", 321: "OutOfRange", 322: "Empty", 323: "TooMuch",
+  313: "Crowded", 329: "NoVisit", 320: "NoRevision", 321: "OutOfRange", 322: "Empty", 323: "TooMuch",
 };
 const refuse = (code) => ({ ok: false, code, error: REFUSALS[code] });
 
 class Room {
-  constructor(owner) { Object.assign(this, { pad: new ModelPad(), visits: 0, present: new Map(), rights: new Map([[owner, "own"]]) }); }
+  // `given` has of each visit, present or not, whose it is, how many operations it made, and the name of the last one.
+  constructor(owner) { Object.assign(this, { pad: new ModelPad(), given: [], present: new Map(), rights: new Map([[owner, "own"]]) }); }
 }
 
 export class ModelServer {
-  // `present` is how many may be on a pad at once, and `most` how many characters are in one edit at most.
-  constructor({ present = 64, most = 10000 } = {}) {
-    Object.assign(this, { present, most, replica: 1, rooms: new Map(), sessions: new Set() });
+  // `present` is how many may be on a pad at once, and `most` how many characters are in one edit at most. A server that
+  // `isOld` does not know `instead`.
+  constructor({ present = 64, most = 10000, isOld = false } = {}) {
+    Object.assign(this, { present, most, isOld, replica: 1, rooms: new Map(), sessions: new Set() });
   }
 
   connect() {
@@ -40,7 +42,8 @@ export class ModelServer {
   }
 
   // The revision of a pad that a session has joined, or null.
-  nowOf(session, name) { return session.visits.has(name) ? this.rooms.get(name).pad.now : null; }
+  nowOf(session, name) { return this.isIn(session, name) ? this.rooms.get(name).pad.now : null; }
+  isIn(session, name) { return this.rooms.get(name)?.present.has(session.visits.get(name)) ?? false; }
 
   reply(session, line) {
     if (/\\u[dD][89a-fA-F]/.test(line)) return refuse(101);
@@ -51,8 +54,8 @@ export class ModelServer {
     if (request.do === "create") return this.rooms.has(name) ? refuse(301) : this.create(session, name);
     const room = this.rooms.get(name);
     if (!room) return refuse(300);
-    if (request.do === "join") return this.join(session, name, room);
-    if (!session.visits.has(name)) return refuse(310);
+    if (request.do === "join") return this.join(session, request, room);
+    if (!this.isIn(session, name)) return refuse(310);
     if (!this.may(session, room, NEEDS[request.do] ?? "read")) return refuse(312);
     return this.answer(session, room, request);
   }
@@ -75,17 +78,21 @@ export class ModelServer {
     const room = new Room(session.name);
     room.pad.replica = this.replica;
     this.rooms.set(name, room);
-    return this.join(session, name, room);
+    return this.join(session, { pad: name }, room);
   }
 
-  join(session, name, room) {
-    if (session.visits.has(name)) return refuse(311);
+  // The old visit ends, whichever session has it.
+  join(session, { pad: name, instead }, room) {
+    if (session.visits.has(name)) return refuse(this.isIn(session, name) ? 311 : 310);
     if (!this.may(session, room, "read")) return refuse(312);
-    if (room.present.size >= this.present) return refuse(313);
-    const visit = ++room.visits;
+    const isAgain = instead !== undefined && !this.isOld, old = isAgain ? room.given[instead - 1] : null;
+    if (isAgain && old?.author !== session.name) return refuse(329);
+    if (room.present.size - (old && room.present.has(instead) ? 1 : 0) >= this.present) return refuse(313);
+    if (old) room.present.delete(instead);
+    const visit = room.given.push({ author: session.name, made: 0, last: null });
     session.visits.set(name, visit);
     room.present.set(visit, { author: this.authorOf(session), caret: null });
-    return { ok: true, now: room.pad.now, visit };
+    return { ok: true, now: room.pad.now, visit, ...(old ? { made: old.made, last: old.last } : {}) };
   }
 
   answer(session, room, request) {
@@ -107,7 +114,13 @@ export class ModelServer {
       room.present.get(visit).caret = request.at ? pad.at(request.rev)[request.at - 1] : null;
       return { ok: true, now };
     }
-    return this.refusal(request) ?? pad.reply(this.authorOf(session), request);
+    return this.refusal(request) ?? this.noted(room.given[visit - 1], pad.reply(this.authorOf(session), request));
+  }
+
+  // An answer with a name is that of an operation.
+  noted(visit, reply) {
+    if (reply.ok && reply.name) Object.assign(visit, { made: visit.made + 1, last: reply.name });
+    return reply;
   }
 
   // The heir is listed first, and the owner before it last, with the right to write.

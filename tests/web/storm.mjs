@@ -1,5 +1,6 @@
 // Six pages of four authors on three pads, before a model of a server that is killed and started, over a network that
-// delays, holds, loses and ends connections: one round, at random with a seed, in simulated time.
+// delays, holds, loses and ends connections: one round, at random with a seed, in simulated time. In each third round the
+// server is of an earlier version, which does not know `instead`.
 import { Browsers } from "./browsers.mjs";
 import { Deeds } from "./deeds.mjs";
 import { dice as makeDice } from "./dice.mjs";
@@ -19,7 +20,8 @@ export class Storm {
   constructor(number, modules) {
     const dice = makeDice(number), most = [4, 11, 40, 10000][dice(4)], kind = Object.keys(KINDS)[number % 4];
     modules.LIMITS.edit = most;
-    this.world = new World({ seed: number, Kind: modules.Session, most, present: PRESENT, delay: () => 1 + dice(150) });
+    const isOld = number % 3 === 0;
+    this.world = new World({ seed: number, Kind: modules.Session, most, present: PRESENT, isOld, delay: () => 1 + dice(150) });
     const pause = (milliseconds) => new Promise((done) => { this.world.clock.after(milliseconds, done); });
     this.deeds = new Deeds({ dice, modules, padNames: PADS, isFull: kind === "full" || kind === "numbers", pause });
     Object.assign(this, { number, dice, kind, failure: null, stores: new Set(), missing: [] }); // pads that were restored; authors whose page ended
@@ -97,8 +99,8 @@ export class Storm {
     if (!page) return;
     const connection = network.of(page);
     const deed = dice(14);
-    if (deed === 0 && connection) { this.seen.held++; connection.hold(dice(60) * SECOND); }
-    if (deed === 1 && connection) { this.seen.breaks++; connection.break(dice(60) * SECOND, false); }
+    if (deed === 0 && connection) { this.seen.held++; connection.hold(dice(120) * SECOND); }
+    if (deed === 1 && connection) { this.seen.breaks++; connection.break(dice(120) * SECOND, false); }
     if (deed === 2 && connection) { this.seen.cuts++; connection.break(dice(30) * SECOND, true); }
     if (deed === 3 && dice(4) === 0) this.killServer();
     if (deed === 4 && dice(4) === 0 && !network.isSilent) {
@@ -156,7 +158,7 @@ export class Storm {
   // Nothing is disturbed any more: everything is sent, everybody has it, and nothing is left of connections that broke.
   async calm() {
     await this.rest();
-    await this.advance(60 * SECOND);
+    await this.advance(120 * SECOND);
     for (const name of this.missing) await this.addPage(name);
     for (const { name, pad } of this.browsers.left) await this.addPage(name, pad);
     await this.rest();

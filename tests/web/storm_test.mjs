@@ -50,6 +50,8 @@ const MISTAKES = [
   ["a deletion that is cut in the middle of a character", null, "delta.js", "edgeBefore(words, most)", "(step.insert ? edgeBefore(words, most) : most)"],
   ["an edit that is sent again after 10 s", null, "resume.js", "isGone = !who.some((one) => one.visit === visit);",
     "isGone = wait >= LAST_LOOK || !who.some((one) => one.visit === visit);"],
+  ["an edit that is sent again though it was made", null, "resume.js", "if (isMade === false || !", "if (isMade !== null || !"],
+  ["an edit that is taken for made", null, "session.js", "`${told.last}` !== `${lastMade}`", "true", "if (reply.name && request.pad", "if (false && request.pad"],
   ["two pads that are open at once", null, "session.js", "this.lastEntry.then(() => this.enterAs(entry, how, name))",
     "this.enterAs(entry, how, name)", "if (entry !== this.entries) throw new Superseded(name);", ""],
   ["a pad that is not left", null, "session.js", "if (this.pad) await this.leave();", ""],

@@ -105,8 +105,8 @@ export class Draft {
 }
 
 // A pad goes on with a note.
-export function adopt(pad, { text, since, me, names, rev, mark, flight, pending, visit, sentIn, madeAt }) {
-  const draft = { me, names, rev, mark, flight, pending, visit, sentIn, madeAt };
+export function adopt(pad, { text, since, me, names, rev, mark, flight, pending, visit, sentIn, madeAt, lastMade = null }) {
+  const draft = { me, names, rev, mark, flight, pending, visit, sentIn, madeAt, lastMade };
   pad.adopt(apply(text.base, since), applyRuns(text.runs, since), draft);
 }
 
@@ -174,9 +174,10 @@ export class Drafts {
   async logInAgain(token) {
     const { session } = this, { pad } = session;
     await session.logIn(session.name, token);
+    const { wire } = session;
     try {
       this.addOthers(await this.take(pad.name));
-      await session.rejoin(pad);
+      if (wire === session.wire) await session.rejoin(pad); // over another connection, that is done where it was made
     } catch (error) {
       if (error instanceof Lost) return; // it is tried again
       session.hangUp();

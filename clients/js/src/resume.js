@@ -9,14 +9,14 @@ import { deltaOf, unit } from "./units.js";
 const EDITS = ["insert", "delete", "edit"], FIRST_LOOK = 100, LAST_LOOK = 2000;
 
 // Where the pad is stopped meanwhile, as when this connection is lost, too, it ends: another one goes on with the pad.
-export async function resume(pad, visit, me) {
+export async function resume(pad, visit, me, isMade) {
   pad.stop();
   const { turn } = pad, goOn = () => { if (pad.turn !== turn) throw new Lost("stopped"); };
   await compare(pad);
   goOn();
-  await settle(pad, visit, me, goOn);
+  await settle(pad, { visit, me, isMade, goOn });
   goOn();
-  pad.visit = visit;
+  pad.begin(visit);
   pad.takeName(me);
   const told = await pad.changes();
   goOn();
@@ -39,13 +39,14 @@ export async function entryOf(pad, rev) { return (await pad.call({ do: "entries"
 
 const isSame = (mark, entry) => mark.author === entry?.author && mark.name.join() === entry.name.join();
 
-// Decides about the edit that was not answered. The old connection can still deliver it, however late, so it is sent again
+// Decides about the edit that was not answered. If the server tells that nothing more was made, it is sent again. Otherwise it
+// is looked for: where the server cannot tell, the old connection can still deliver it, however late, so it is sent again
 // only when its visit is gone. To erase words twice does no harm.
-async function settle(pad, visit, me, goOn) {
+async function settle(pad, { visit, me, isMade, goOn }) {
   if (!pad.flight) return;
   if (pad.madeAt) { await pad.landAt(pad.madeAt); return; }
-  if (!pad.flight.some((step) => step.insert)) { pad.unsend(); return; }
-  const search = { from: pad.rev + 1, mine: [pad.visit, pad.sentIn, visit], names: [...pad.names, me], goOn };
+  if (isMade === false || !pad.flight.some((step) => step.insert)) { pad.unsend(); return; }
+  const search = { from: pad.rev + 1, mine: [pad.visit, pad.sentIn, visit], names: [...pad.names, me], isMade, goOn };
   await whenGone(pad, pad.sentIn, () => find(pad, search), () => { goOn(); return true; });
   goOn();
   if (pad.flight) pad.unsend();
@@ -85,7 +86,7 @@ async function isFlight(pad, rev, search) {
   const theirs = deltaOf(before.changes, pad.base), text = apply(pad.base, theirs), [mine] = transform(pad.flight, theirs);
   const result = apply(text, mine);
   if (result !== apply(text, deltaOf(made.changes, text))) return false;
-  if (await isOfOtherWindow(pad, { rev, text: result, ends: endsOf(mine) }, search)) return false;
+  if (!search.isMade && await isOfOtherWindow(pad, { rev, text: result, ends: endsOf(mine) }, search)) return false;
   search.goOn();
   pad.land(theirs, rev, before.notes);
   return true;

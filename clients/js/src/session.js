@@ -18,6 +18,8 @@ import { UnsentComments } from "./unsent.js";
 const SETTLE = 5000, LOOK = 20;
 // Refusals that no edit gets if the server has the page's text: no such revision, and a place behind its end.
 const UNFIT = [320, 321];
+// The server does not know the old visit.
+const NO_VISIT = 329;
 
 const NOTHING = () => {};
 // What a session tells, with what it gives.
@@ -39,6 +41,8 @@ export class Session extends Connection {
   constructor({ pace = PACE, store = null, ...connection }) {
     super(connection);
     Object.assign(this, { pace, events: new Events(EVENTS), drafts: new Drafts(this, store), caret: new OwnCaret(this) });
+    const { ask } = this;
+    this.ask = (request) => ask(request).then((reply) => this.heard(request, reply));
     this.pad = null; this.presence = null; this.comments = null; this.pulse = null; this.kept = new KeptWords(() => this.drafts.keep());
     // How many pads were asked for, how many of these are being opened, and the end of the last one's entry.
     this.entries = 0; this.entering = 0; this.lastEntry = Promise.resolve();
@@ -98,23 +102,38 @@ export class Session extends Connection {
   }
   async goOn() { if (this.pad) await this.rejoin(this.pad); }
 
+  // Joins instead of the old visit, so that nothing more comes of that one. A server that does not know it, or is of an earlier
+  // version, does not tell whether it has made more than was answered.
   async rejoin(pad) {
-    const { visit } = await this.call({ do: "join", pad: pad.name });
-    await this.resume(pad, visit);
+    const { name, visit: instead, lastMade } = pad, told = await this.joinInstead(name, instead);
+    await this.resume(pad, told.visit, told.made === undefined ? null : `${told.last}` !== `${lastMade}`);
+  }
+
+  async joinInstead(pad, instead) {
+    try { return await this.call({ do: "join", pad, instead }); } catch (error) {
+      if (error.reply?.code !== NO_VISIT) throw error;
+      return this.call({ do: "join", pad });
+    }
+  }
+
+  // Remembers the last operation that was answered in the visit.
+  heard(request, reply) {
+    if (reply.name && request.pad === this.pad?.name) this.pad.lastMade = reply.name;
+    return reply;
   }
 
   // The pad goes on in a new visit, once it is known what the server has of what was not answered. What fails because the pad
   // was left meanwhile is no failure. What another page had not sent may be of another past.
-  async resume(pad, visit) {
+  async resume(pad, visit, isMade = null) {
     try {
-      if (!pad.isUnfit) await pad.resume(visit, this.me);
+      if (!pad.isUnfit) await pad.resume(visit, this.me, isMade);
     } catch (error) {
       if (pad !== this.pad && error instanceof Refused) return;
       if (!(error instanceof Misfit || (pad.isAdopted && error instanceof LostRevisions))) throw error;
       pad.isUnfit = true;
     }
     if (pad !== this.pad) return;
-    pad.visit = visit;
+    pad.begin(visit);
     pad.takeName(this.me);
     pad.isAdopted = false;
     this.caret.isNew = true;

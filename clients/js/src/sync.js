@@ -40,6 +40,7 @@ export class Pad {
     this.base = ""; this.baseRuns = []; this.rev = 0; this.now = 0;
     this.flight = null; this.pending = [];
     this.sentIn = 0; this.madeAt = 0; // the visit in which flight was sent, and the revision that it is by its answer
+    this.lastMade = null; // the name of the last operation that was answered in the visit
     this.text = ""; this.runs = [];
     this.trail = [];
     this.mark = UNMARKED;
@@ -77,8 +78,8 @@ export class Pad {
   // What another page needs, beside `base` and `baseRuns`, to go on where this one ends; and to go on from there. The server
   // has to be asked then what it has of it (`resume`). What was pending is one step of undo.
   get draft() {
-    const { me, names, rev, mark, flight, pending, visit, sentIn, madeAt } = this;
-    return { me, names, rev, mark, flight, pending, visit, sentIn, madeAt };
+    const { me, names, rev, mark, flight, pending, visit, sentIn, madeAt, lastMade } = this;
+    return { me, names, rev, mark, flight, pending, visit, sentIn, madeAt, lastMade };
   }
   adopt(base, baseRuns, draft) {
     const { me, flight, pending } = draft, text = apply(base, flight ?? []), runs = applyRuns(baseRuns, flight ?? []);
@@ -279,7 +280,9 @@ export class Pad {
   }
 
   // After a new connection, over which the author has this name: finds out what the server has, and takes what came since.
-  resume(visit, me = this.me) { return resume(this, visit, me); }
+  // `isMade` tells whether the old visit, which has ended, has made more than was answered, or is null if that is not known.
+  resume(visit, me = this.me, isMade = null) { return resume(this, visit, me, isMade); }
+  begin(visit) { Object.assign(this, { visit, lastMade: null }); }
 
   // The server has another number, or the author another name: what is not sent yet will be under that one.
   takeName(me) {

@@ -26,6 +26,7 @@ if TYPE_CHECKING:
 _FIRST_TRY, _LAST_TRY = 1.0, 10.0  # seconds
 # Refusals that no edit gets if the server has the pad's text: no such revision, and a place behind its end.
 _UNFIT = (320, 321)
+_NO_VISIT = 329  # the server does not know the old visit
 
 
 def _right_of(name: str, rights: list[tuple[str, Right]]) -> Right:
@@ -118,12 +119,13 @@ class OpenPad:
         self.caret.stop()
         await self.stop()
 
-    async def rejoin(self, visit: int, me: str) -> None:
-        """There is another connection, over which the pad is joined again."""
+    async def rejoin(self, me: str) -> None:
+        """There is another connection: the pad is joined instead of the old visit, so that nothing more comes of that one."""
         pad = self.pad
+        visit, is_made = await self._join_instead()
         try:
             if not pad.is_unfit:
-                await pad.resume(visit, me)
+                await pad.resume(visit, me, is_made)
         except Refused:
             if self._is_open:
                 raise
@@ -131,11 +133,23 @@ class OpenPad:
         except Misfit:
             pad.is_unfit = True
         if self._is_open:
-            pad.visit = visit
+            pad.begin(visit)
             pad.take_name(me)
             self.caret.is_new = True
             self.start()
             self.beside(self.refresh)
+
+    async def _join_instead(self) -> tuple[int, bool | None]:
+        """The new visit, and whether the old one has made more than was answered: None if the server does not know the old
+        visit, or is of an earlier version."""
+        pad, call = self.pad, self._session.call
+        try:
+            told = await call("join", pad=pad.name, instead=pad.visit)
+        except Refused as refusal:
+            if refusal.code != _NO_VISIT:
+                raise
+            told = await call("join", pad=pad.name)
+        return told["visit"], told["last"] != pad.last_made if "made" in told else None
 
     # ---- sending and following
 

@@ -20,12 +20,12 @@ _FIRST_LOOK, _LAST_LOOK = 0.1, 2.0  # seconds
 _Found = TypeVar("_Found")
 
 
-async def resume(pad: Sync, visit: int, me: str) -> None:
+async def resume(pad: Sync, visit: int, me: str, is_made: bool | None) -> None:
     """`Sync.resume`."""
     pad.stop()
     await _compare(pad)
-    await _settle(pad, visit, me)
-    pad.visit = visit
+    await _settle(pad, visit, me, is_made)
+    pad.begin(visit)
     pad.take_name(me)
     pad.advance(await pad.read_changes(pad.rev))
 
@@ -44,18 +44,19 @@ async def _compare(pad: Sync) -> None:
         raise Misfit(f"revision {rev} has another text") if mark.rev >= rev else LostRevisions(pad.name)
 
 
-async def _settle(pad: Sync, visit: int, me: str) -> None:
-    """Decides about the edit that was not answered. The old connection can still deliver it, however late, so it is sent again
+async def _settle(pad: Sync, visit: int, me: str, is_made: bool | None) -> None:
+    """Decides about the edit that was not answered. If the server tells that nothing more was made, it is sent again. Otherwise
+    it is looked for: where the server cannot tell, the old connection can still deliver it, however late, so it is sent again
     only when its visit is gone. To erase words twice does no harm."""
     if pad.flight is None:
         return
     if pad.made_at:
         await pad.land_at(pad.made_at)
         return
-    if not any(isinstance(step, Insert) for step in pad.flight):
+    if is_made is False or not any(isinstance(step, Insert) for step in pad.flight):
         pad.unsend()
         return
-    search = _Search(pad.rev + 1, {pad.visit, pad.sent_in, visit}, {*pad.names, me})
+    search = _Search(pad.rev + 1, {pad.visit, pad.sent_in, visit}, {*pad.names, me}, bool(is_made))
     await when_gone(pad, pad.sent_in, lambda: _find(pad, search))
     if pad.flight is not None:
         pad.unsend()
@@ -80,11 +81,12 @@ async def when_gone(
 
 @dataclass(slots=True)
 class _Search:
-    """Where to look: from a revision on, and which visits and names are this client's."""
+    """Where to look: from a revision on, which visits and names are this client's, and whether something was made for sure."""
 
     start: int
     mine: set[int]
     names: set[str]
+    is_made: bool
 
 
 async def _find(pad: Sync, search: _Search) -> bool:
@@ -114,7 +116,7 @@ async def _is_flight(pad: Sync, rev: int, search: _Search) -> bool:
     result = apply(text, mine)
     if result != apply(text, made.over(text)):
         return False
-    if await _is_of_other_window(pad, rev, result, _ends_of(mine), search):
+    if not search.is_made and await _is_of_other_window(pad, rev, result, _ends_of(mine), search):
         return False
     pad.land(theirs, rev, before.notes)
     return True

@@ -138,7 +138,7 @@ class Session(Connection):
 
     async def _go_on(self) -> None:
         if self._open:
-            await self._open.rejoin((await self.call("join", pad=self._open.pad.name))["visit"], self.me)
+            await self._open.rejoin(self.me)
 
     def close(self) -> None:
         """Ends the session, without waiting for what is not sent: `saved` does that."""

@@ -77,6 +77,7 @@ class Sync(PadRequests):
         self.flight: list[Step] | None = None
         self.pending: list[Step] = []
         self.sent_in = 0  # the visit in which the flight was sent
+        self.last_made: list[int] | None = None  # the name of the last operation that was answered in the visit
         self.made_at = 0  # the revision that it is, by its answer
         self.trail: list[_Trail] = []
         self.mark = Mark()
@@ -108,6 +109,7 @@ class Sync(PadRequests):
         if not reply["ok"]:
             raise Refused.of(reply, do)
         self.now = max(self.now, reply["now"])
+        self.last_made = reply.get("name", self.last_made)
         return reply
 
     @property
@@ -326,14 +328,20 @@ class Sync(PadRequests):
         if self._turn == turn:
             await self.land_at(self.made_at, held)
 
-    async def resume(self, visit: int, me: str | None = None) -> None:
+    def begin(self, visit: int) -> None:
+        """A new visit: nothing was made in it."""
+        self.visit = visit
+        self.last_made = None
+
+    async def resume(self, visit: int, me: str | None = None, is_made: bool | None = None) -> None:
         """After a new connection, over which the author has this name: finds out what the server has, and takes what came
-        since.
+        since. `is_made` tells whether the old visit, which has ended, has made more than was answered, or is None if that is
+        not known.
 
         Raises:
             LostRevisions: the server has another past.
         """
-        await resume.resume(self, visit, me or self.me)
+        await resume.resume(self, visit, me or self.me, is_made)
 
     def take_name(self, me: str) -> None:
         """The server has another number, or the author another name: what is not sent yet will be under that one."""

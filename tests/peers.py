@@ -171,8 +171,8 @@ class Wire:
         target.close()
 
 
-def a_letter_costs_a_peer_four_requests():
-    """Of 40 pads one is typed on: the other server is asked about that one alone, over the connection that there is."""
+def a_letter_costs_a_peer_one_request():
+    """Of 40 pads one is typed on: the other server is sent the letter, over the connection that there is, and asked nothing."""
     ports = dict(zip((1, 2), free_ports(2)))
     wire = Wire(ports[2])
     second = Server(2, ports, ["bob"], [1])
@@ -188,7 +188,7 @@ def a_letter_costs_a_peer_four_requests():
         wait_for("the letter at bob's server", lambda: bob.does(do="text", pad="p7")["text"] == "a" * (round + 1))
         time.sleep(1.5)
         asked = wire.requests[before:]
-        want([request["do"] for request in asked], ["pull", "vector", "push", "vector"], f"what is asked in round {round}")
+        want([request["do"] for request in asked], ["push"], f"what is asked in round {round}")
         want({request["pad"] for request in asked}, {"p7"}, "about which pads")
         want((connections, wire.connections), (1, 1), "the connections")
     first.stop()
@@ -267,7 +267,7 @@ TESTS = [
     Test("peers: a server that was away is caught up with", a_server_that_was_away_is_caught_up_with, 90),
     Test("peers: three servers in a line", three_servers_in_a_line, 120),
     Test("peers: three servers in a ring", three_servers_in_a_ring, 120),
-    Test("peers: a letter costs a peer four requests", a_letter_costs_a_peer_four_requests, 60),
+    Test("peers: a letter costs a peer one request", a_letter_costs_a_peer_one_request, 60),
     Test("peers: neither a silent peer nor a liar delays another", neither_a_silent_peer_nor_a_liar_delays_another, 120),
     Test("peers: a connection that was closed is made again", a_connection_that_was_closed_is_made_again, 60),
 ]

@@ -2,7 +2,7 @@
 
 use conversation::Pads;
 use pad_model::Version;
-use relay::{PeerLines, Relayed, greet, visit_listed};
+use relay::{Exchanged, KnownVectors, PeerLines, greet, visit_listed};
 use sessions::Peer;
 use std::alloc::Global;
 use std::io;
@@ -94,16 +94,18 @@ impl<'a, R: Wait + Clock> PeerConnection<'a, R> {
         self.whole_at = Instant::now(clock).ok();
     }
 
-    /// Makes a round over these cells. On a fault the connection is lost.
+    /// Makes a round over these cells, with what the peer is known to have of the pad of each. On a fault the connection
+    /// is lost.
     pub fn visit<P: Pads>(
         mut self,
         alloc: Global,
         pads: &mut P,
         cells: &[u32],
-    ) -> Result<(PeerConnection<'a, R>, Relayed), BrokenRound> {
+        known: KnownVectors,
+    ) -> Result<(PeerConnection<'a, R>, Exchanged), BrokenRound> {
         let version = self.version;
-        match visit_listed(alloc, pads, &mut self.link, version, cells) {
-            Ok(relayed) => Ok((self, relayed)),
+        match visit_listed(alloc, pads, &mut self.link, version, cells, known) {
+            Ok(exchanged) => Ok((self, exchanged)),
             Err(fault) => Err(why(self.link, fault)),
         }
     }

@@ -4,7 +4,8 @@ use crate::stop::Guard;
 use cell_set::CellSet;
 use conversation::Pads;
 use log::warn;
-use relay::Relayed;
+use pad_model::{MAX_NUMBER, Seen};
+use relay::{Exchanged, KnownVectors, Relayed};
 use server_log::ServerLog;
 use sessions::Peer;
 use std::alloc::{AllocError, Global};
@@ -47,6 +48,8 @@ pub struct PeerLink<'a, R> {
     place: usize,
     guard: Guard<'a>,
     connection: Option<PeerConnection<'a, R>>,
+    /// What the peer is known to have of the pad of each cell, since the last round over all cells.
+    known: KnownVectors,
     /// The cells that have changed since they were last visited.
     moved: CellSet,
     /// The pause before the next round, in seconds; 0 if the last round succeeded.
@@ -72,6 +75,7 @@ where
             place,
             guard,
             connection: None,
+            known: KnownVectors::new(alloc),
             moved: CellSet::new(alloc, cells)?,
             pause: 0,
             failed_at: None,
@@ -170,37 +174,64 @@ where
         }
     }
 
-    // Visits cells as the peer's session.
+    // Visits cells as the peer's session: all of them, or those that have changed.
     fn visit<P: Pads>(
-        &self,
+        &mut self,
         alloc: Global,
         pads: &mut P,
         connection: PeerConnection<'a, R>,
         is_whole: bool,
     ) -> Result<(PeerConnection<'a, R>, Relayed), BrokenRound> {
-        let cells = match self.cells(alloc, pads.cells(), is_whole) {
-            Ok(cells) => cells,
-            Err(_) => {
-                return Err(BrokenRound::Off {
-                    fault: Fault::Memory,
-                    cause: None,
-                });
-            }
+        let Ok((cells, known)) = self.what_to_visit(alloc, pads.cells(), is_whole) else {
+            return Err(BrokenRound::Off {
+                fault: Fault::Memory,
+                cause: None,
+            });
         };
         let _session = pads.relay(alloc, self.peer.number);
-        connection.visit(alloc, pads, cells.as_slice())
+        let (connection, exchanged) = connection.visit(alloc, pads, cells.as_slice(), known)?;
+        let relayed = exchanged.relayed;
+        self.note_known(cells.as_slice(), exchanged, is_whole);
+        Ok((connection, relayed))
     }
 
-    // The cells that a round visits, in ascending order.
-    fn cells(&self, alloc: Global, count: u32, is_whole: bool) -> Result<Vec<u32>, AllocError> {
-        if !is_whole {
-            return self.moved.list(alloc);
+    // The cells that a round visits, in ascending order, and what the peer is known to have of the pad of each. In a round
+    // over all cells the peer is asked, since it may have what it does not push.
+    fn what_to_visit(
+        &mut self,
+        alloc: Global,
+        count: u32,
+        is_whole: bool,
+    ) -> Result<(Vec<u32>, KnownVectors), AllocError> {
+        if is_whole {
+            let mut cells = Vec::new(alloc);
+            for cell in 0..count {
+                cells.push(cell)?;
+            }
+            return Ok((cells, KnownVectors::of_pads(alloc, count as usize)?));
         }
-        let mut cells = Vec::new(alloc);
-        for cell in 0..count {
-            cells.push(cell)?;
+        let cells = self.moved.list(alloc)?;
+        let mut known = KnownVectors::new(alloc);
+        for cell in &cells {
+            known.push(self.known.take(*cell as usize))?;
         }
-        Ok(cells)
+        Ok((cells, known))
+    }
+
+    // Notes what the peer has after a round over these cells. After one over all cells, nothing else is known.
+    fn note_known(&mut self, cells: &[u32], mut exchanged: Exchanged, is_whole: bool) {
+        let origin = self.peer.number;
+        for (place, cell) in cells.iter().enumerate() {
+            let known = with_all_of(exchanged.known.take(place), origin);
+            if is_whole {
+                exchanged.known.set(place, known);
+            } else {
+                self.known.set(*cell as usize, known);
+            }
+        }
+        if is_whole {
+            self.known = exchanged.known;
+        }
     }
 
     // Connects to the peer, and greets it.
@@ -241,6 +272,16 @@ where
                 None => warn!(ServerLog(rt); "peer {number}: {fault}"),
             },
         }
+    }
+}
+
+// A vector of a peer that has all operations of this origin, which is its own: what others tell of them, it has made
+// itself. None, if there is no memory for it.
+fn with_all_of(known: Option<Seen>, origin: u16) -> Option<Seen> {
+    let mut seen = known?;
+    match seen.set(origin, MAX_NUMBER) {
+        Ok(()) => Some(seen),
+        Err(_) => None,
     }
 }
 

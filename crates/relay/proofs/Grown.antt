@@ -15,12 +15,13 @@ use Rattle.wire_json.specs.declared.peer_answer.Told.{Told}
 use Rattle.wire_json.specs.declared.peer_answer.Told.TheVariants.{Said, Refused}
 use Rattle.wire_lines.specs.declared.fault.Fault.{Fault}
 use Rattle.pad_core.specs.declared.act.Act.TheVariants as act
-use Rattle.wire_json.specs.Peers.{vector_request, push_request}
+use Rattle.wire_json.specs.Peers.{push_request}
 use Rattle.conversation.specs.Session.{Answer}
 use Rattle.relay.specs.Counts.{with_unsaid}
 use Rattle.wire_lines.specs.Causes.{with_more}
 use Rattle.wire_lines.specs.Device.{one_more}
-use Rattle.relay.specs.Round.{Stage, World, Goes, Reaches, Sends, SendsIf, Asks, Choice, with_pads, counted}
+use Rattle.relay.specs.Round.{Begins, Stage, World, Goes, Reaches, Sends, SendsIf, Asks, Choice, with_pads, counted}
+use Rattle.relay.specs.Round.{known_at, with_op}
 use Rattle.relay.specs.Round.{is_readable, greeted, named, asked, pulled, taken, told_vector, lacked, told_push}
 use Rattle.relay.specs.Round.{own_name, own_vector, own_ops, own_count}
 use Rattle.relay.specs.Round.{Stage as stage}
@@ -135,16 +136,22 @@ module _ {P : Type 0} where
   told_vector_wire name turn (Some Refused) w = refl
   told_vector_wire name turn (Some (Said seen)) w = refl
 
-  lacked_wire : (name : List ℕ) (turn : ℕ) (said : Result (Option (List Op)) Fault) (w : World P) →
-      (lacked name turn said w).1.wire ≡ w.wire
-  lacked_wire name turn (Ok None) w = refl
-  lacked_wire name turn (Ok (Some ops)) w = refl
-  lacked_wire name turn (Err fault) w = refl
+  lacked_wire : (name : List ℕ) (turn : ℕ) (seen : List Counted) (said : Result (Option (List Op)) Fault)
+      (w : World P) → (lacked name turn seen said w).1.wire ≡ w.wire
+  lacked_wire name turn seen (Ok None) w = refl
+  lacked_wire name turn seen (Ok (Some ops)) w = refl
+  lacked_wire name turn seen (Err fault) w = refl
 
-  told_push_wire : (name : List ℕ) (turn due : ℕ) (gained whole : Bool) (said : Option (Told Pushed)) (w : World P) →
-      (told_push name turn due gained whole said w).1.wire ≡ w.wire
-  told_push_wire name turn due gained whole None w = refl
-  told_push_wire name turn due gained whole (Some told) w = refl
+  told_push_wire : (name : List ℕ) (turn : ℕ) (seen : List Counted) (due : ℕ) (gained whole all : Bool)
+      (said : Option (Told Pushed)) (w : World P) →
+      (told_push name turn seen due gained whole all said w).1.wire ≡ w.wire
+  told_push_wire name turn seen due gained whole all None w = refl
+  told_push_wire name turn seen due gained whole all (Some told) w = refl
+
+  begins_grows : (name : List ℕ) (turn : ℕ) (known : Option (List Counted)) (u v : World P) (last : Stage) →
+      Begins name turn known u last v → Grows u.wire v.wire
+  begins_grows name turn None u v last (sends, is) = wrote_grows _ u.wire v.wire sends.0
+  begins_grows name turn (Some seen) u v last (is, same) = same_grows u.wire v.wire (ap (λ w. w.wire) same)
 
   -- a step that leaves the wire of a world between as it is
   after : (u mid v : World P) (stage : Stage) (p : Stage × World P) → Grows u.wire mid.wire → p.1.wire ≡ mid.wire →
@@ -191,26 +198,27 @@ module _ {P : Type 0} (calls : P → Request → Answer → P → Type 0) (names
       after u mid v last _ (pads_grow u mid _ asks.1 refl) (taken_wire name turn gained ops (own_count said) mid) is
   goes_grows (stage.Pushing name turn) u last v h = next (either _ h)
     where
-      next : ((last ≡ stage.Over) × (v ≡ u)) ⊎ (Sends (vector_request name) u v × (last ≡ stage.Counting name turn)) →
+      next : ((last ≡ stage.Over) × (v ≡ u)) ⊎ Begins name turn (known_at u.known u.cell) u last v →
           Grows u.wire v.wire
       next (inl (ended, is)) = same_grows u.wire v.wire (ap (λ w. w.wire) is)
-      next (inr (sends, is)) = wrote_grows _ u.wire v.wire sends.0
+      next (inr begins) = begins_grows name turn (known_at u.known u.cell) u v last begins
   goes_grows (stage.Counting name turn) u last v (said, mid, heard, is) =
       after u mid v last _ (heard_grows _ said u.wire mid.wire heard.0) (told_vector_wire name turn said mid) is
   goes_grows (stage.Lacking name turn seen) u last v (said, mid, asks, is) =
-      after u mid v last _ (pads_grow u mid _ asks.1 refl) (lacked_wire name turn (own_ops said) mid) is
-  goes_grows (stage.Giving name turn due []) u last v (ended, is) = same_grows u.wire v.wire (ap (λ w. w.wire) is)
-  goes_grows (stage.Giving name turn due (op ∷ ops)) u last v h = next (either _ h)
+      after u mid v last _ (pads_grow u mid _ asks.1 refl) (lacked_wire name turn seen (own_ops said) mid) is
+  goes_grows (stage.Giving name turn seen due []) u last v (ended, is) = same_grows u.wire v.wire (ap (λ w. w.wire) is)
+  goes_grows (stage.Giving name turn seen due (op ∷ ops)) u last v h = next (either _ h)
     where
-      next : (Sends (push_request name op) u v × (last ≡ stage.Giving name turn (due + 1) ops))
-          ⊎ ((last ≡ stage.Hearing name turn due false false) × (v ≡ counted with_unsaid u)) → Grows u.wire v.wire
+      next : (Sends (push_request name op) u v × (last ≡ stage.Giving name turn (with_op op seen) (due + 1) ops))
+          ⊎ ((last ≡ stage.Hearing name turn seen due false false true) × (v ≡ counted with_unsaid u)) →
+          Grows u.wire v.wire
       next (inl (sends, is)) = wrote_grows _ u.wire v.wire sends.0
       next (inr (ended, is)) = same_grows u.wire v.wire (ap (λ w. w.wire) is)
-  goes_grows (stage.Hearing name turn zero gained whole) u last v (ended, is) =
+  goes_grows (stage.Hearing name turn seen zero gained whole all) u last v (ended, is) =
       same_grows u.wire v.wire (ap (λ w. w.wire) is)
-  goes_grows (stage.Hearing name turn (suc due) gained whole) u last v (said, mid, heard, is) =
+  goes_grows (stage.Hearing name turn seen (suc due) gained whole all) u last v (said, mid, heard, is) =
       after u mid v last _ (heard_grows _ said u.wire mid.wire heard.0)
-      (told_push_wire name turn due gained whole said mid) is
+      (told_push_wire name turn seen due gained whole all said mid) is
   goes_grows stage.Over u last v (ended, is) = same_grows u.wire v.wire (ap (λ w. w.wire) is)
   goes_grows stage.Ended u last v h = absurd h
   goes_grows (stage.Failed fault) u last v h = absurd h

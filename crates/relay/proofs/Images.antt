@@ -21,14 +21,15 @@ use Rattle.wire_json.specs.Peers.{peer_request, vector_request, push_request}
 use Rattle.relay.specs.Breaks.{Breaks}
 use Rattle.relay.specs.Counts.{with_unsaid}
 use Rattle.relay.specs.Kept.{Visited}
-use Rattle.relay.specs.Round.{Stage, World, Goes, Reaches, Heard, Sends, SendsIf, Asks, Choice, counted, with_pads}
+use Rattle.relay.specs.Round.{Begins, Stage, World, Goes, Reaches, Heard, Sends, SendsIf, Asks, Choice, counted, with_pads}
+use Rattle.relay.specs.Round.{known_at, with_op}
 use Rattle.relay.specs.Round.{is_readable, greeted, named, asked, pulled, taken, told_vector, lacked, told_push}
 use Rattle.relay.specs.Round.{own_name, own_vector, own_ops, own_count}
 use Rattle.relay.specs.Round.{Stage as stage}
 use Rattle.relay.specs.Round.Reaches.{here, on}
 use Rattle.relay.specs.Wire.{Wire}
+use Rattle.relay.specs.declared.exchanged.Exchanged.{Exchanged}
 use Rattle.relay.specs.declared.limits.TheConstants.{MAX_PULL_TURNS, MAX_PUSH_TURNS}
-use Rattle.relay.specs.declared.relayed.Relayed.{Relayed}
 
 -- one of two, and what both leave
 choose : {A B C D K : Type 0} (b : Bool) → (b ≡ true → A → C × K) → (b ≡ false → B → D × K) → Choice b A B →
@@ -45,7 +46,7 @@ module _ {P Q : Type 0} (f : P → Q) (Holds : P → Type 0) (cells : ℕ) (call
     names old cell said new → names_to (f old) cell said (f new) × Holds new) where
   -- a world of the others
   abbrev pub image : World P → World Q
-  image w = record { cells = w.cells; cell = w.cell; version = w.version; relayed = w.relayed; pads = f w.pads; wire = w.wire }
+  image w = record { cells = w.cells; cell = w.cell; version = w.version; relayed = w.relayed; known = w.known; pads = f w.pads; wire = w.wire }
 
   -- what every step keeps
   abbrev pub Keeps : World P → Type 0
@@ -99,16 +100,18 @@ module _ {P Q : Type 0} (f : P → Q) (Holds : P → Type 0) (cells : ℕ) (call
   told_vector_like name turn (Some Refused) w = (refl, refl, refl)
   told_vector_like name turn (Some (Said seen)) w = (refl, refl, refl)
 
-  lacked_like : (name : List ℕ) (turn : ℕ) (said : Result (Option (List Op)) Fault) (w : World P) →
-      IsLike (lacked name turn said w) (lacked name turn said (image w)) w
-  lacked_like name turn (Ok None) w = (refl, refl, refl)
-  lacked_like name turn (Ok (Some ops)) w = (refl, refl, refl)
-  lacked_like name turn (Err fault) w = (refl, refl, refl)
+  lacked_like : (name : List ℕ) (turn : ℕ) (seen : List Counted) (said : Result (Option (List Op)) Fault)
+      (w : World P) → IsLike (lacked name turn seen said w) (lacked name turn seen said (image w)) w
+  lacked_like name turn seen (Ok None) w = (refl, refl, refl)
+  lacked_like name turn seen (Ok (Some ops)) w = (refl, refl, refl)
+  lacked_like name turn seen (Err fault) w = (refl, refl, refl)
 
-  told_push_like : (name : List ℕ) (turn due : ℕ) (gained whole : Bool) (said : Option (Told Pushed)) (w : World P) →
-      IsLike (told_push name turn due gained whole said w) (told_push name turn due gained whole said (image w)) w
-  told_push_like name turn due gained whole None w = (refl, refl, refl)
-  told_push_like name turn due gained whole (Some told) w = (refl, refl, refl)
+  told_push_like : (name : List ℕ) (turn : ℕ) (seen : List Counted) (due : ℕ) (gained whole all : Bool)
+      (said : Option (Told Pushed)) (w : World P) →
+      IsLike (told_push name turn seen due gained whole all said w)
+      (told_push name turn seen due gained whole all said (image w)) w
+  told_push_like name turn seen due gained whole all None w = (refl, refl, refl)
+  told_push_like name turn seen due gained whole all (Some told) w = (refl, refl, refl)
 
   -- the same for a vector that may be sent
   abbrev IsAskedLike : Stage × World P × Option Data → Stage × World Q × Option Data → World P → Type 0
@@ -143,6 +146,13 @@ module _ {P Q : Type 0} (f : P → Q) (Holds : P → Type 0) (cells : ℕ) (call
   asks_too name what said u mid k (asks, is) =
       let so = called u.pads (request.On name what) said mid.pads k.0 asks in
       ((so.0, ap image is), (so.1, ap (λ w. w.cells) is ∙ k.1))
+
+  begins_too : (name : List ℕ) (turn : ℕ) (known : Option (List Counted)) (u : World P) (last : Stage) (v : World P) →
+      Keeps u → Begins name turn known u last v → Begins name turn known (image u) last (image v) × Keeps v
+  begins_too name turn None u last v k (sends, is) =
+      let so = sent (vector_request name) u v k sends in ((so.0, is), so.1)
+  begins_too name turn (Some seen) u last v k (is, same) =
+      ((is, ap image same), keeps_on u v k (ap (λ w. w.pads) same) (ap (λ w. w.cells) same))
 
   -- each step is one of the others
   goes_image : (first : Stage) (u : World P) (last : Stage) (v : World P) → Keeps u → Goes calls names first u last v →
@@ -212,37 +222,38 @@ module _ {P Q : Type 0} (f : P → Q) (Holds : P → Type 0) (cells : ℕ) (call
           ((last ≡ stage.Over) × (image v ≡ image u)) × Keeps v
       done over (ended, is) = ((ended, ap image is), keeps_same u v k is)
 
-      next : nat_le MAX_PUSH_TURNS turn ≡ false → Sends (vector_request name) u v × (last ≡ stage.Counting name turn) →
-          (Sends (vector_request name) (image u) (image v) × (last ≡ stage.Counting name turn)) × Keeps v
-      next more (sends, is) = let so = sent (vector_request name) u v k sends in ((so.0, is), so.1)
+      next : nat_le MAX_PUSH_TURNS turn ≡ false → Begins name turn (known_at u.known u.cell) u last v →
+          Begins name turn (known_at u.known u.cell) (image u) last (image v) × Keeps v
+      next more begins = begins_too name turn (known_at u.known u.cell) u last v k begins
   goes_image (stage.Counting name turn) u last v k (said, mid, heard, is) =
       let h = heard_too _ said u mid k heard in
       let so = then_on mid v last _ _ h.1 is (told_vector_like name turn said mid) in
       ((said, image mid, h.0, so.0), so.1)
   goes_image (stage.Lacking name turn seen) u last v k (said, mid, asks, is) =
       let a = asks_too name _ said u mid k asks in
-      let so = then_on mid v last _ _ a.1 is (lacked_like name turn (own_ops said) mid) in
+      let so = then_on mid v last _ _ a.1 is (lacked_like name turn seen (own_ops said) mid) in
       ((said, image mid, a.0, so.0), so.1)
-  goes_image (stage.Giving name turn due []) u last v k (ended, is) = ((ended, ap image is), keeps_same u v k is)
-  goes_image (stage.Giving name turn due (op ∷ ops)) u last v k h =
+  goes_image (stage.Giving name turn seen due []) u last v k (ended, is) = ((ended, ap image is), keeps_same u v k is)
+  goes_image (stage.Giving name turn seen due (op ∷ ops)) u last v k h =
       choose (is_readable u.version (op_in_v1 op)) gives stops h
     where
       gives : is_readable u.version (op_in_v1 op) ≡ true
-          → Sends (push_request name op) u v × (last ≡ stage.Giving name turn (due + 1) ops)
-          → (Sends (push_request name op) (image u) (image v) × (last ≡ stage.Giving name turn (due + 1) ops))
-          × Keeps v
+          → Sends (push_request name op) u v × (last ≡ stage.Giving name turn (with_op op seen) (due + 1) ops)
+          → (Sends (push_request name op) (image u) (image v)
+          × (last ≡ stage.Giving name turn (with_op op seen) (due + 1) ops)) × Keeps v
       gives can (sends, is) = let so = sent (push_request name op) u v k sends in ((so.0, is), so.1)
 
       stops : is_readable u.version (op_in_v1 op) ≡ false
-          → (last ≡ stage.Hearing name turn due false false) × (v ≡ counted with_unsaid u)
-          → ((last ≡ stage.Hearing name turn due false false) × (image v ≡ counted with_unsaid (image u))) × Keeps v
+          → (last ≡ stage.Hearing name turn seen due false false true) × (v ≡ counted with_unsaid u)
+          → ((last ≡ stage.Hearing name turn seen due false false true) × (image v ≡ counted with_unsaid (image u)))
+          × Keeps v
       stops cannot (ended, is) =
           ((ended, ap image is), keeps_on u v k (ap (λ w. w.pads) is) (ap (λ w. w.cells) is))
-  goes_image (stage.Hearing name turn zero gained whole) u last v k (ended, is) =
-      ((ended, ap image is), keeps_same u v k is)
-  goes_image (stage.Hearing name turn (suc due) gained whole) u last v k (said, mid, heard, is) =
+  goes_image (stage.Hearing name turn seen zero gained whole all) u last v k (ended, is) =
+      ((ended, ap image is), keeps_on u v k (ap (λ w. w.pads) is) (ap (λ w. w.cells) is))
+  goes_image (stage.Hearing name turn seen (suc due) gained whole all) u last v k (said, mid, heard, is) =
       let h = heard_too _ said u mid k heard in
-      let so = then_on mid v last _ _ h.1 is (told_push_like name turn due gained whole said mid) in
+      let so = then_on mid v last _ _ h.1 is (told_push_like name turn seen due gained whole all said mid) in
       ((said, image mid, h.0, so.0), so.1)
   goes_image stage.Over u last v k (ended, is) =
       ((ended, ap image is), keeps_on u v k (ap (λ w. w.pads) is) (ap (λ w. w.cells) is))
@@ -259,19 +270,19 @@ module _ {P Q : Type 0} (f : P → Q) (Holds : P → Type 0) (cells : ℕ) (call
       let rest = reaches_image mid v last w one.1 more in (on one.0 rest.0, rest.1)
 
   -- and a visit
-  pub visited_image : (r : Result Relayed Fault) (u : World P) (wire : Wire) (pads : P) → Keeps u →
-      IfOk r (λ relayed. Visited calls names u relayed wire pads) →
-      IfOk r (λ relayed. Visited calls_to names_to (image u) relayed wire (f pads) × Holds pads)
-  visited_image (Ok relayed) u wire pads k (w, reaches, counted, wired, left) =
+  pub visited_image : (r : Result Exchanged Fault) (u : World P) (wire : Wire) (pads : P) → Keeps u →
+      IfOk r (λ done. Visited calls names u done wire pads) →
+      IfOk r (λ done. Visited calls_to names_to (image u) done wire (f pads) × Holds pads)
+  visited_image (Ok done) u wire pads k (w, reaches, counted, known, wired, left) =
       let so = reaches_image _ u _ w k reaches in
-      ((image w, so.0, counted, wired, ap f left), subst Holds left so.1.0)
+      ((image w, so.0, counted, known, wired, ap f left), subst Holds left so.1.0)
   visited_image (Err fault) u wire pads k visited = tt
 
   -- and what broke off
-  pub breaks_image : (r : Result Relayed Fault) (first : Stage) (u : World P) (pads : P) (wire : Wire) → Keeps u →
+  pub breaks_image : (r : Result Exchanged Fault) (first : Stage) (u : World P) (pads : P) (wire : Wire) → Keeps u →
       IfErr r (λ fault. Breaks calls names fault first u pads wire) →
       IfErr r (λ fault. Breaks calls_to names_to fault first (image u) (f pads) wire × Holds pads)
-  breaks_image (Ok relayed) first u pads wire k breaks = tt
+  breaks_image (Ok done) first u pads wire k breaks = tt
   breaks_image (Err fault) first u pads wire k (stage, w, text, rest, reaches, same, app, left, cause) =
       let so = reaches_image first u stage w k reaches in
       ((stage, image w, text, rest, so.0, ap f same, app, left, cause), subst Holds (sym same) so.1.0)

@@ -5,6 +5,7 @@ use Rattle.std.proofs.lemmas.List.FromFn.{get_or-range_with_len, length-range_wi
 use Rattle.std.proofs.lemmas.Option.{slice_get-get_or}
 use Rattle.std.specs.List.{range_with_len}
 use Rattle.pad_model.specs.declared.refusal.Refusal.{Refusal}
+use Rattle.pad_model.specs.declared.seen.Counted.{Counted}
 use Rattle.pad_model.specs.declared.who.Version.{Version}
 use Rattle.pad_core.specs.declared.request.Request.{Request}
 use Rattle.wire_lines.specs.declared.fault.Fault.{Fault}
@@ -17,7 +18,7 @@ use Rattle.relay.specs.Listed.{NameOf, by_place, count_of}
 use Rattle.relay.specs.Round.Stage.{Next}
 use Rattle.relay.specs.Wire.{Wire}
 use Rattle.relay.specs.declared.chosen.Chosen.{Chosen}
-use Rattle.relay.specs.declared.relayed.Relayed.{Relayed}
+use Rattle.relay.specs.declared.exchanged.Exchanged.{Exchanged}
 use Rattle.relay.proofs.Images.{breaks_image, reaches_image, visited_image}
 
 -- the cell at a position in the list of all cells is that position
@@ -58,51 +59,56 @@ module _ {P : Type 0} (calls : P → Request → Answer → P → Type 0) (names
   )
 
   -- a visit to them is a visit to the pads by the positions in the list, and they stay borrowed
-  visited_here : (r : Result Relayed Fault) (version : Version) (old new : Chosen P) (wire last : Wire) →
-      IfOk r (λ relayed. Visited (CallsChosen calls) (NamesChosen names)
-      (ready version (count_of old.cells.now) old wire) relayed last new) →
-      IfOk r (λ relayed. Visited calls (by_place old.cells.now names)
-      (ready version (count_of old.cells.now) old.pads.now wire) relayed last new.pads.now × IsSame old new)
-  visited_here r version old new wire last visited =
+  visited_here : (r : Result Exchanged Fault) (version : Version) (known : List (Option (List Counted)))
+      (old new : Chosen P) (wire last : Wire) →
+      IfOk r (λ done. Visited (CallsChosen calls) (NamesChosen names)
+      (ready version (count_of old.cells.now) known old wire) done last new) →
+      IfOk r (λ done. Visited calls (by_place old.cells.now names)
+      (ready version (count_of old.cells.now) known old.pads.now wire) done last new.pads.now × IsSame old new)
+  visited_here r version known old new wire last visited =
       visited_image (λ c. c.pads.now) (IsSame old) (count_of old.cells.now) (CallsChosen calls) (NamesChosen names) calls
       (by_place old.cells.now names) (called old) (λ x place said y holds low tells. looked old x place said y holds tells)
-      r (ready version (count_of old.cells.now) old wire) last new ((refl, refl), refl) visited
+      r (ready version (count_of old.cells.now) known old wire) last new ((refl, refl), refl) visited
 
   -- so is one that broke off
-  breaks_here : (r : Result Relayed Fault) (version : Version) (old new : Chosen P) (wire last : Wire) →
+  breaks_here : (r : Result Exchanged Fault) (version : Version) (known : List (Option (List Counted)))
+      (old new : Chosen P) (wire last : Wire) →
       IfErr r (λ fault. Breaks (CallsChosen calls) (NamesChosen names) fault Next
-      (ready version (count_of old.cells.now) old wire) new last) →
+      (ready version (count_of old.cells.now) known old wire) new last) →
       IfErr r (λ fault. Breaks calls (by_place old.cells.now names) fault Next
-      (ready version (count_of old.cells.now) old.pads.now wire) new.pads.now last × IsSame old new)
-  breaks_here r version old new wire last breaks =
+      (ready version (count_of old.cells.now) known old.pads.now wire) new.pads.now last × IsSame old new)
+  breaks_here r version known old new wire last breaks =
       breaks_image (λ c. c.pads.now) (IsSame old) (count_of old.cells.now) (CallsChosen calls) (NamesChosen names) calls
       (by_place old.cells.now names) (called old) (λ x place said y holds low tells. looked old x place said y holds tells)
-      r Next (ready version (count_of old.cells.now) old wire) new last ((refl, refl), refl) breaks
+      r Next (ready version (count_of old.cells.now) known old wire) new last ((refl, refl), refl) breaks
 
-  pub visited_listed : (r : Result Relayed Fault) (version : Version) (old new : Chosen P) (wire last : Wire) →
-      IfOk r (λ relayed. Visited (CallsChosen calls) (NamesChosen names)
-      (ready version (count_of old.cells.now) old wire) relayed last new) →
-      IfOk r (λ relayed. Visited calls (by_place old.cells.now names)
-      (ready version (count_of old.cells.now) old.pads.now wire) relayed last new.pads.now)
-  visited_listed r version old new wire last visited =
-      both_ok _ _ r (visited_here r version old new wire last visited)
+  pub visited_listed : (r : Result Exchanged Fault) (version : Version) (known : List (Option (List Counted)))
+      (old new : Chosen P) (wire last : Wire) →
+      IfOk r (λ done. Visited (CallsChosen calls) (NamesChosen names)
+      (ready version (count_of old.cells.now) known old wire) done last new) →
+      IfOk r (λ done. Visited calls (by_place old.cells.now names)
+      (ready version (count_of old.cells.now) known old.pads.now wire) done last new.pads.now)
+  visited_listed r version known old new wire last visited =
+      both_ok _ _ r (visited_here r version known old new wire last visited)
 
-  pub breaks_listed : (r : Result Relayed Fault) (version : Version) (old new : Chosen P) (wire last : Wire) →
+  pub breaks_listed : (r : Result Exchanged Fault) (version : Version) (known : List (Option (List Counted)))
+      (old new : Chosen P) (wire last : Wire) →
       IfErr r (λ fault. Breaks (CallsChosen calls) (NamesChosen names) fault Next
-      (ready version (count_of old.cells.now) old wire) new last) →
+      (ready version (count_of old.cells.now) known old wire) new last) →
       IfErr r (λ fault. Breaks calls (by_place old.cells.now names) fault Next
-      (ready version (count_of old.cells.now) old.pads.now wire) new.pads.now last)
-  breaks_listed r version old new wire last breaks =
-      both_err _ _ r (breaks_here r version old new wire last breaks)
+      (ready version (count_of old.cells.now) known old.pads.now wire) new.pads.now last)
+  breaks_listed r version known old new wire last breaks =
+      both_err _ _ r (breaks_here r version known old new wire last breaks)
 
-  pub stays_listed : (r : Result Relayed Fault) (version : Version) (old new : Chosen P) (wire last : Wire) →
-      IfOk r (λ relayed. Visited (CallsChosen calls) (NamesChosen names)
-      (ready version (count_of old.cells.now) old wire) relayed last new) →
+  pub stays_listed : (r : Result Exchanged Fault) (version : Version) (known : List (Option (List Counted)))
+      (old new : Chosen P) (wire last : Wire) →
+      IfOk r (λ done. Visited (CallsChosen calls) (NamesChosen names)
+      (ready version (count_of old.cells.now) known old wire) done last new) →
       IfErr r (λ fault. Breaks (CallsChosen calls) (NamesChosen names) fault Next
-      (ready version (count_of old.cells.now) old wire) new last) → new.pads.ghost_name ≡ old.pads.ghost_name
-  stays_listed r version old new wire last visited breaks =
-      (either_way _ _ _ r (visited_here r version old new wire last visited)
-      (breaks_here r version old new wire last breaks)).0
+      (ready version (count_of old.cells.now) known old wire) new last) → new.pads.ghost_name ≡ old.pads.ghost_name
+  stays_listed r version known old new wire last visited breaks =
+      (either_way _ _ _ r (visited_here r version known old new wire last visited)
+      (breaks_here r version known old new wire last breaks)).0
 
   -- over the list of all cells, the steps are those over the cells themselves
   pub all_cells : AllCellsLaw calls names

@@ -1,8 +1,9 @@
 -- The steps from pad to pad.
-use Rattle.std.proofs.Common.{◌≡◌, ◌⊎◌, inl, inr, ℕ, ◌+◌, ◌<◌, ◌≤◌, List, Option, None, Some, Result, Ok, Err, IfOk, refl}
-use Rattle.std.proofs.Common.{sym, ap, ◌∙◌, subst}
+use Rattle.std.proofs.Common.{◌≡◌, ◌⊎◌, inl, inr, ℕ, ◌+◌, ◌<◌, ◌≤◌, List, [], Option, None, Some, Result, Ok, Err, refl}
+use Rattle.std.proofs.Common.{sym, ap, ◌∙◌, subst, is_some, true, false}
 use Rattle.std.proofs.lemmas.Bool.{le-leb, lt-leb}
 use Rattle.pad_model.specs.declared.refusal.Refusal.{Refusal}
+use Rattle.pad_model.specs.declared.seen.Counted.{Counted}
 use Rattle.pad_model.specs.declared.who.Version.{Version}
 use Rattle.pad_core.specs.declared.request.Request.{Request}
 use Rattle.wire_json.specs.Peers.{peer_answer, peer_request}
@@ -13,13 +14,23 @@ use Rattle.wire_lines.specs.declared.fault.Fault.TheVariants.{PeerReply, Memory}
 use Rattle.conversation.specs.Session.{Answer}
 use Rattle.relay.specs.Breaks.{Breaks}
 use Rattle.relay.specs.Kept.{Greets, IsUnsent, Made, MissesGreeting, Visited, begun, ready, world}
-use Rattle.relay.specs.Round.{Stage, World, Goes, Reaches, greeted, line_of, named, own_name, with_version}
-use Rattle.relay.specs.Round.Stage.{Ended, Failed, Greeted, Greeting, Next, Over, Pulling}
+use Rattle.relay.specs.Round.{Stage, World, Goes, Reaches, first_of, greeted, known_at, line_of, named, own_name, with_version}
+use Rattle.relay.specs.Round.Stage.{Ended, Failed, Greeted, Greeting, Next, Over, Pulling, Pushing}
 use Rattle.relay.specs.Wire.{Wire, HearsAs, Writes}
-use Rattle.relay.specs.declared.relayed.Relayed.{Relayed}
+use Rattle.relay.specs.declared.exchanged.Exchanged.{Exchanged}
 use Rattle.relay.specs.declared.talk.Talk.{Talk}
 use Rattle.relay.proofs.Pulls.{chosen_false, chosen_true}
 use Rattle.relay.proofs.Steps.{join, lacks, later, one, unheard, unsent, wrong}
+
+-- how the exchange of a pad begins, by whether it is known what the peer has
+pub first_known : (name : List ℕ) (known : Option (List Counted)) → is_some known ≡ true → first_of name known ≡ Pushing name 0
+first_known name None is = absurd (cc)
+first_known name (Some seen) is = refl
+
+pub first_unknown : (name : List ℕ) (known : Option (List Counted)) → is_some known ≡ false →
+    first_of name known ≡ Pulling name 0
+first_unknown name None is = refl
+first_unknown name (Some seen) is = absurd (cc)
 
 module _ {P : Type 0} (calls : P → Request → Answer → P → Type 0) (names : P → ℕ → Result (Option (List ℕ)) Refusal →
     P → Type 0) where
@@ -71,7 +82,7 @@ module _ {P : Type 0} (calls : P → Request → Answer → P → Type 0) (names
   -- the first two stages: the peer was greeted
   pub greets_then : (own : ℕ) (token : List ℕ) (its : Version) (cells : ℕ) (pads : P) (wire new : Wire) →
       Greets own token its wire new
-      → Reaches calls names (Greeting own token) (begun cells pads wire) Next (ready its cells pads new)
+      → Reaches calls names (Greeting own token) (begun cells pads wire) Next (ready its cells [] pads new)
   greets_then own token its cells pads wire new (mid, wrote, heard) =
       join calls names _ _ _ _ _ _ (greeting_sent own token cells pads wire mid wrote)
       (greeted_then cells (Some (Said its)) its pads mid new refl heard)
@@ -93,18 +104,16 @@ module _ {P : Type 0} (calls : P → Request → Answer → P → Type 0) (names
       (greeted_wrong cells said pads mid new which heard))
 
   -- a visit after a greeting is a round
-  pub made_then : (own : ℕ) (token : List ℕ) (r : Result Relayed Fault) (u v : World P) (wire : Wire) (pads : P) →
-      Reaches calls names (Greeting own token) u Next v
-      → IfOk r (λ relayed. Visited calls names v relayed wire pads)
-      → IfOk r (λ relayed. Made calls names own token u relayed wire pads)
-  made_then own token (Ok relayed) u v wire pads before (w, more, counted, wired, left) = (
+  pub made_then : (own : ℕ) (token : List ℕ) (done : Exchanged) (u v : World P) (wire : Wire) (pads : P) →
+      Reaches calls names (Greeting own token) u Next v → Visited calls names v done wire pads
+      → Made calls names own token u done.relayed wire pads
+  made_then own token done u v wire pads before (w, more, counted, known, wired, left) = (
     w,
     join calls names _ u _ v _ w before more,
     counted,
     wired,
     left,
   )
-  made_then own token (Err fault) u v wire pads before visited = tt
 
   -- a cell is looked at
   looked : (talk : Talk) (old new : P) (wire : Wire) (said : Result (Option (List ℕ)) Refusal)
@@ -123,7 +132,8 @@ module _ {P : Type 0} (calls : P → Request → Answer → P → Type 0) (names
   pub looked_pad : (talk : Talk) (old new : P) (wire : Wire) (said : Result (Option (List ℕ)) Refusal)
       (r : Result (Option (List ℕ)) Fault) (name : List ℕ)
       → talk.cell < talk.cells → names old talk.cell said new → r ≡ own_name said → r ≡ Ok (Some name)
-      → Reaches calls names Next (world talk old wire) (Pulling name 0) (world talk new wire)
+      → Reaches calls names Next (world talk old wire) (first_of name (known_at talk.known talk.cell))
+      (world talk new wire)
   looked_pad talk old new wire said r name low told own is =
       one calls names Next _ _ _ (looked talk old new wire said (Ok (Some name)) _ _ low told (sym own ∙ is) refl)
 
@@ -152,7 +162,7 @@ module _ {P : Type 0} (calls : P → Request → Answer → P → Type 0) (names
   pub past_one : (first : Stage) (u : World P) (talk mid next : Talk) (pads new : P) (wire last : Wire) →
       Reaches calls names first u Next (world talk pads wire)
       → Reaches calls names Next (world talk pads wire) Over (world mid new last)
-      → next ≡ record { cells = mid.cells; cell = mid.cell + 1; version = mid.version; relayed = mid.relayed }
+      → next ≡ record { cells = mid.cells; cell = mid.cell + 1; version = mid.version; relayed = mid.relayed; known = mid.known }
       → Reaches calls names first u Next (world next new last)
   past_one first u talk mid next pads new wire last before more is =
       subst (λ t. Reaches calls names first u Next (world t new last)) (sym is)

@@ -1,7 +1,9 @@
 -- How a round breaks off.
-use Rattle.std.specs.Prelude.{◌≡◌, ℕ, List, [], Option, None, Result}
+use Rattle.std.specs.Prelude.{◌≡◌, ℕ, Bool, true, false, List, [], Option, None, Result}
 use Rattle.std.specs.Io.KnownBytes.{Appends}
+use Rattle.pad_model.specs.declared.op.Op.{Op}
 use Rattle.pad_model.specs.declared.refusal.Refusal.{Refusal}
+use Rattle.pad_model.specs.declared.seen.Counted.{Counted}
 use Rattle.pad_core.specs.declared.request.Request.{Request}
 use Rattle.wire_lines.specs.Device.{one_more}
 use Rattle.wire_lines.specs.declared.fault.Fault.{Fault}
@@ -9,7 +11,9 @@ use Rattle.wire_lines.specs.declared.fault.Fault.TheVariants.{ReadFault, WriteFa
 use Rattle.conversation.specs.Session.{Answer}
 use Rattle.relay.specs.Wire.{Wire, IsUnheard}
 use Rattle.relay.specs.Round.{Stage, World, Reaches}
-use Rattle.relay.specs.Round.Stage.{Failed}
+use Rattle.relay.specs.Round.Stage.{Failed, Giving, Hearing}
+use Rattle.relay.specs.Kept.{world}
+use Rattle.relay.specs.declared.talk.Talk.{Talk}
 
 -- why a round broke off at a stage, with these bytes of it not written: the reader failed; the writer failed; the
 -- peer's line was not an answer; or memory ran out
@@ -34,3 +38,14 @@ module _ {P : Type 0} (calls : P → Request → Answer → P → Type 0)
       × (pads ≡ w.pads)
       × Appends old.wire.written wire.written text × Appends wire.written w.wire.written rest
       × (old.wire.stopped ≡ None → IsCause fault stage rest old.wire wire)
+
+  -- giving operations broke off
+  abbrev pub BreaksGiving : Fault → List ℕ → List Op → List Counted → Talk → Wire → Wire → Type 0
+  BreaksGiving fault name ops seen talk old new = (turn : ℕ) (pads : P)
+      → Breaks fault (Giving name turn seen 0 ops) (world talk pads old) pads new
+
+  -- hearing this many answers broke off
+  abbrev pub BreaksHearing : Fault → ℕ → Talk → Wire → Wire → Type 0
+  BreaksHearing fault due talk old new =
+      (name : List ℕ) (turn : ℕ) (seen : List Counted) (whole : Bool) (pads : P)
+      → Breaks fault (Hearing name turn seen due false whole true) (world talk pads old) pads new

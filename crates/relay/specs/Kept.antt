@@ -1,6 +1,7 @@
 -- The world of a round as the code keeps it, and the outcomes of its parts.
-use Rattle.std.specs.Prelude.{◌≡◌, ◌⊎◌, ℕ, ◌+◌, Bool, true, false, List, Option, None, Some, Result, Err}
+use Rattle.std.specs.Prelude.{◌≡◌, ◌⊎◌, ℕ, ◌+◌, slice_set, Bool, true, false, List, [], Option, None, Some, Result, Err}
 use Rattle.pad_model.specs.OldWire.{seen_in_v1}
+use Rattle.pad_model.specs.declared.op.Op.{Op}
 use Rattle.pad_model.specs.declared.refusal.Refusal.{Refusal}
 use Rattle.pad_model.specs.declared.seen.Counted.{Counted}
 use Rattle.pad_model.specs.declared.who.Version.{Version}
@@ -16,12 +17,15 @@ use Rattle.wire_lines.specs.declared.fault.Fault.{Fault}
 use Rattle.wire_lines.specs.declared.fault.Fault.TheVariants.{WriteFault, PeerReply, Memory}
 use Rattle.conversation.specs.Session.{Answer}
 use Rattle.relay.specs.Counts.{none_yet, with_unsaid}
-use Rattle.relay.specs.Round.{Stage, World, Reaches, is_readable, line_of, with_version}
-use Rattle.relay.specs.Round.Stage.{Greeting, Next, Pulling, Pushing, Over, Ended}
+use Rattle.relay.specs.Round.{Stage, World, Reaches, is_readable, line_of}
+use Rattle.relay.specs.Round.Stage.{Giving, Greeting, Hearing, Next, Pulling, Pushing, Over, Ended}
 use Rattle.relay.specs.Wire.{Wire, HearsAs, MissesAnswer, Writes, WritesPart}
+use Rattle.relay.specs.declared.exchanged.Exchanged.{Exchanged}
 use Rattle.relay.specs.declared.limits.TheConstants.{MAX_OPS}
 use Rattle.relay.specs.declared.pull.PullTurn.{PullTurn}
 use Rattle.relay.specs.declared.pull.PullTurn.TheVariants as turn_of
+use Rattle.relay.specs.declared.push.Given.{Given}
+use Rattle.relay.specs.declared.push.Heard.{Heard}
 use Rattle.relay.specs.declared.relayed.Relayed.{Relayed}
 use Rattle.relay.specs.declared.talk.Talk.{Talk}
 
@@ -32,24 +36,34 @@ world talk pads wire = record {
   cell = talk.cell;
   version = talk.version;
   relayed = talk.relayed;
+  known = talk.known;
   pads = pads;
   wire = wire;
 }
 
--- the world before a round
+-- the world before a round: it is not known what the peer has
 abbrev pub begun : {P : Type 0} → ℕ → P → Wire → World P
 begun cells pads wire = record {
   cells = cells;
   cell = 0;
   version = One;
   relayed = none_yet;
+  known = [];
   pads = pads;
   wire = wire;
 }
 
--- the world of a peer that was greeted, before a visit to the cells
-abbrev pub ready : {P : Type 0} → Version → ℕ → P → Wire → World P
-ready version cells pads wire = with_version version (begun cells pads wire)
+-- the world of a peer that was greeted, before a visit to the cells, of whose pads it is known to have this
+abbrev pub ready : {P : Type 0} → Version → ℕ → List (Option (List Counted)) → P → Wire → World P
+ready version cells known pads wire = record {
+  cells = cells;
+  cell = 0;
+  version = version;
+  relayed = none_yet;
+  known = known;
+  pads = pads;
+  wire = wire;
+}
 
 -- the stage after a turn of pulling
 abbrev pub after_turn : List ℕ → ℕ → PullTurn → Stage
@@ -69,7 +83,36 @@ counts more talk = record {
   cell = talk.cell;
   version = talk.version;
   relayed = more talk.relayed;
+  known = talk.known;
 }
+
+-- the state of a round that knows this of the pad of its cell
+abbrev pub notes : Option (List Counted) → Talk → Talk
+notes seen talk = record {
+  cells = talk.cells;
+  cell = talk.cell;
+  version = talk.version;
+  relayed = talk.relayed;
+  known = slice_set talk.known talk.cell seen;
+}
+
+-- operations of a pad were written to a peer, as far as its version can express them, or its version ended this; with
+-- them the peer has this vector
+abbrev pub Gives : {P : Type 0} → (P → Request → Answer → P → Type 0) →
+    (P → ℕ → Result (Option (List ℕ)) Refusal → P → Type 0) → List ℕ → List Op → Given →
+    List Counted → List Counted → Talk → Wire → Talk → Wire → Type 0
+Gives {P} calls names name ops given seen after talk old then new = (turn : ℕ) (pads : P)
+    → Reaches calls names (Giving name turn seen 0 ops) (world talk pads old)
+    (Hearing name turn after given.due false given.whole true) (world then pads new)
+
+-- this many answers to pushes were heard
+abbrev pub HearsAll : {P : Type 0} → (P → Request → Answer → P → Type 0) →
+    (P → ℕ → Result (Option (List ℕ)) Refusal → P → Type 0) → ℕ → Heard →
+    Talk → Wire → Talk → Wire → Type 0
+HearsAll {P} calls names due heard talk old then new =
+    (name : List ℕ) (turn : ℕ) (seen : List Counted) (whole : Bool) (pads : P)
+    → Reaches calls names (Hearing name turn seen due false whole true) (world talk pads old)
+    (Hearing name turn seen 0 heard.gained whole heard.all) (world then pads new)
 
 -- this server's vector was sent to the peer, or the peer cannot read it
 abbrev pub SendsPull : List ℕ → List Counted → Bool → Talk → Wire → Talk → Wire → Type 0
@@ -116,12 +159,14 @@ MissesGreeting own token fault old new =
     ⊎ ((mid : Wire) × Writes (line_of (peer_request own token)) old mid
     × (MissesAnswer fault mid new ⊎ IsTurnedAway fault mid new))
 
--- the cells from here on were visited, with these results
+-- the cells from here on were visited, with these results, and the peer is known to have this
 abbrev pub Visited : {P : Type 0} → (P → Request → Answer → P → Type 0) →
     (P → ℕ → Result (Option (List ℕ)) Refusal → P → Type 0)
-    → World P → Relayed → Wire → P → Type 0
-Visited {P} calls names old relayed wire pads =
-    (w : World P) × Reaches calls names Next old Ended w × (w.relayed ≡ relayed) × (w.wire ≡ wire)
+    → World P → Exchanged → Wire → P → Type 0
+Visited {P} calls names old done wire pads =
+    (w : World P) × Reaches calls names Next old Ended w × (w.relayed ≡ done.relayed)
+    × (w.known ≡ done.known)
+    × (w.wire ≡ wire)
     × (w.pads ≡ pads)
 
 -- a round was made, with these results

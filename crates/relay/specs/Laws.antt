@@ -1,5 +1,5 @@
 -- The statements of the laws of rounds, over any pads.
-use Rattle.std.specs.Prelude.{◌≡◌, ◌+◌, ◌*◌, ◌<◌, ℕ, true, List, [], ◌∷◌, Option, Some, Result, Ok}
+use Rattle.std.specs.Prelude.{◌≡◌, ◌+◌, ◌*◌, ◌<◌, ℕ, length, true, List, [], ◌∷◌, Option, None, Some, Result, Ok}
 use Rattle.std.specs.List.{range_with_len}
 use Rattle.pad_model.specs.OldWire.{op_in_v1, seen_in_v1}
 use Rattle.pad_model.specs.declared.limits.TheConstants.{MAX_OPERATIONS}
@@ -19,8 +19,9 @@ use Rattle.relay.specs.Breaks.{Breaks}
 use Rattle.relay.specs.Counts.{with_pull, with_pulled, with_pushed}
 use Rattle.relay.specs.Kept.{begun, ready, Greets, MissesGreeting}
 use Rattle.relay.specs.Listed.{by_place, count_of}
-use Rattle.relay.specs.Round.{Asks, Heard, Reaches, Sends, Stage, World, counted, is_readable, own_count, own_ops, own_vector}
-use Rattle.relay.specs.Round.Stage.{Greeting, Next, Pulling, Pushing}
+use Rattle.relay.specs.Round.{Asks, Heard, Reaches, Sends, Stage, World, counted, is_readable, known_at, noted, own_count}
+use Rattle.relay.specs.Round.{own_ops, own_vector, with_op}
+use Rattle.relay.specs.Round.Stage.{Greeting, Next, Over, Pulling, Pushing}
 use Rattle.relay.specs.Wire.{Wire}
 use Rattle.relay.specs.declared.limits.TheConstants.{MAX_OPS}
 
@@ -37,7 +38,7 @@ module _ {P : Type 0} (calls : P → Request → Answer → P → Type 0)
       (old new : Wire)
       → Greets own token version old new
       → Reaches calls names (Greeting own token) (begun cells pads old) Next
-      (ready version cells pads new)
+      (ready version cells [] pads new)
 
   -- a greeting that failed is a round that broke off
   abbrev pub MissedLaw : Type 0
@@ -69,13 +70,13 @@ module _ {P : Type 0} (calls : P → Request → Answer → P → Type 0)
       → Reaches calls names (Pulling name turn) old (Pulling name (turn + 1))
       (counted (with_pulled count) new)
 
-  -- a pad has one operation that a peer lacks, and the peer delivers it: a turn of pushing delivers it there, and another
-  -- turn follows. There is such a turn as long as the turns so far may have brought less than a pad can have, a batch at a
-  -- time
+  -- a pad has one operation that a peer lacks, and the peer delivers it: a turn of pushing delivers it there, after which
+  -- the peer is known to have it, and another turn follows. There is such a turn as long as the turns so far may have
+  -- brought less than a pad can have, a batch at a time
   abbrev pub PushedLaw : Type 0
   PushedLaw = (name : List ℕ) (turn : ℕ) (lacking : Answer) (seen : List Counted) (op : Op)
       (old asked told given sent heard : World P)
-      → turn * MAX_BATCH < MAX_OPERATIONS
+      → turn * MAX_BATCH < MAX_OPERATIONS → known_at old.known old.cell ≡ None
       → Sends (vector_request name) old asked
       → Heard vector_answer (Some (Said seen)) asked told
       → Asks calls names name (act.Pull seen MAX_OPS (Some MAX_BATCH)) lacking told given
@@ -84,4 +85,20 @@ module _ {P : Type 0} (calls : P → Request → Answer → P → Type 0)
       → Sends (push_request name op) given sent
       → Heard push_answer (Some (Said pushed.Delivered)) sent heard
       → Reaches calls names (Pushing name turn) old (Pushing name (turn + 1))
-      (counted with_pushed heard)
+      (noted (Some (with_op op seen)) (counted with_pushed heard))
+
+  -- it is known what a peer has of a pad, which has one operation more: the peer is sent this one, and nothing else, and is
+  -- known to have it once it has delivered it
+  abbrev pub OneRequestLaw : Type 0
+  OneRequestLaw = (name : List ℕ) (lacking nothing : Answer) (seen : List Counted) (op : Op)
+      (old given sent heard new : World P)
+      → known_at old.known old.cell ≡ Some seen → old.cell < length old.known
+      → Asks calls names name (act.Pull seen MAX_OPS (Some MAX_BATCH)) lacking (noted None old) given
+      → own_ops lacking ≡ Ok (Some (op ∷ []))
+      → is_readable given.version (op_in_v1 op) ≡ true
+      → Sends (push_request name op) given sent
+      → Heard push_answer (Some (Said pushed.Delivered)) sent heard
+      → Asks calls names name (act.Pull (with_op op seen) MAX_OPS (Some MAX_BATCH)) nothing
+      (noted None (noted (Some (with_op op seen)) (counted with_pushed heard))) new
+      → own_ops nothing ≡ Ok (Some [])
+      → Reaches calls names (Pushing name 0) old Over (noted (Some (with_op op seen)) new)

@@ -1,9 +1,10 @@
 -- A relay round, stage by stage: what a server writes to a peer and does with its own pads, given the peer's lines.
 use Rattle.std.specs.Prelude.{◌≡◌, ℕ, zero, suc, ◌+◌, nat_le, nat_lt, ◌||◌, ◌&&◌, Bool, true, false, if◌then◌else◌}
-use Rattle.std.specs.Prelude.{List, [], ◌∷◌, ◌++◌, Option, None, Some, Result, Ok, Err}
+use Rattle.std.specs.Prelude.{slice_index_or, slice_set, List, [], ◌∷◌, ◌++◌, Option, None, Some, Result, Ok, Err}
 use Rattle.serde_json.specs.Data.{Data}
 use Rattle.serde_json.specs.Written.{compact_text}
 use Rattle.pad_model.specs.OldWire.{op_in_v1, seen_in_v1}
+use Rattle.pad_model.specs.Seen.{count_in, with_count}
 use Rattle.pad_model.specs.declared.op.Op.{Op}
 use Rattle.pad_model.specs.declared.refusal.Refusal.{Refusal}
 use Rattle.pad_model.specs.declared.refusal.Refusal.TheVariants as refusal
@@ -52,10 +53,12 @@ pub data Stage : Type 0 where
   Counting : List ℕ → ℕ → Stage
   -- the operations that the peer's vector lacks are to be looked up
   Lacking : List ℕ → ℕ → List Counted → Stage
-  -- these operations are to be written, after this many; all of them, unless the peer's version cannot express one
-  Giving : List ℕ → ℕ → ℕ → List Op → Stage
-  -- this many answers to pushes are due; whether any operation was delivered; whether the pad may have another turn
-  Hearing : List ℕ → ℕ → ℕ → Bool → Bool → Stage
+  -- these operations are to be written, after this many; all of them, unless the peer's version cannot express one. The
+  -- vector is that of a peer that has those that were written
+  Giving : List ℕ → ℕ → List Counted → ℕ → List Op → Stage
+  -- this many answers to pushes are due, after which the peer has this vector if it has all that was pushed; whether any
+  -- operation was delivered; whether the pad may have another turn; whether the peer has all so far
+  Hearing : List ℕ → ℕ → List Counted → ℕ → Bool → Bool → Bool → Stage
   -- the exchange of this pad is over
   Over : Stage
   -- the round is made
@@ -63,13 +66,14 @@ pub data Stage : Type 0 where
   -- the round ends in a fault
   Failed : Fault → Stage
 
--- a round under way: the number of cells, and the next one; the peer's version; the results so far; the pads; and the
--- wire
+-- a round under way: the number of cells, and the next one; the peer's version; the results so far; what the peer is known
+-- to have of the pad of each cell; the pads; and the wire
 pub record World (P : Type 0) : Type 0 where
   pub cells : ℕ
   pub cell : ℕ
   pub version : Version
   pub relayed : Relayed
+  pub known : List (Option (List Counted))
   pub pads : P
   pub wire : Wire
 
@@ -119,6 +123,32 @@ after_push (Said pushed.Delivered) r = with_pushed r
 after_push (Said other) r = r
 after_push Refused r = with_refused r
 
+-- whether a peer has an operation, by its answer to a push
+abbrev pub is_had : Told Pushed → Bool
+is_had (Said pushed.Delivered) = true
+is_had (Said pushed.Repeat) = true
+is_had other = false
+
+-- the vector of a peer that has this operation too, and with it all earlier ones of its origin
+abbrev pub with_op : Op → List Counted → List Counted
+with_op op seen = if nat_lt (count_in seen op.name.origin) op.name.number
+    then with_count seen op.name.origin op.name.number
+    else seen
+
+-- what a peer is known to have: this vector, if it has all that was pushed
+abbrev pub if_all : Bool → List Counted → Option (List Counted)
+if_all true seen = Some seen
+if_all false seen = None
+
+-- what the peer is known to have of the pad of a cell
+abbrev pub known_at : List (Option (List Counted)) → ℕ → Option (List Counted)
+known_at known cell = slice_index_or known cell None
+
+-- how the exchange of a pad begins: if it is known what the peer has, nothing is pulled
+abbrev pub first_of : List ℕ → Option (List Counted) → Stage
+first_of name None = Pulling name 0
+first_of name (Some seen) = Pushing name 0
+
 -- whether a peer can read something, by whether version 1 can express it
 abbrev pub is_readable : Version → Bool → Bool
 is_readable version.One in_v1 = in_v1
@@ -132,6 +162,7 @@ module _ {P : Type 0} where
     cell = w.cell;
     version = w.version;
     relayed = w.relayed;
+    known = w.known;
     pads = pads;
     wire = w.wire;
   }
@@ -143,6 +174,7 @@ module _ {P : Type 0} where
     cell = w.cell;
     version = w.version;
     relayed = w.relayed;
+    known = w.known;
     pads = w.pads;
     wire = wire;
   }
@@ -154,6 +186,7 @@ module _ {P : Type 0} where
     cell = w.cell;
     version = w.version;
     relayed = more w.relayed;
+    known = w.known;
     pads = w.pads;
     wire = w.wire;
   }
@@ -165,6 +198,19 @@ module _ {P : Type 0} where
     cell = w.cell;
     version = version;
     relayed = w.relayed;
+    known = w.known;
+    pads = w.pads;
+    wire = w.wire;
+  }
+
+  -- a world that knows this of the pad of its cell
+  abbrev pub noted : Option (List Counted) → World P → World P
+  noted seen w = record {
+    cells = w.cells;
+    cell = w.cell;
+    version = w.version;
+    relayed = w.relayed;
+    known = slice_set w.known w.cell seen;
     pads = w.pads;
     wire = w.wire;
   }
@@ -176,6 +222,7 @@ module _ {P : Type 0} where
     cell = w.cell + 1;
     version = w.version;
     relayed = w.relayed;
+    known = w.known;
     pads = w.pads;
     wire = w.wire;
   }
@@ -199,10 +246,10 @@ module _ {P : Type 0} where
   greeted (Some Refused) w = (Failed PeerReply, w)
   greeted (Some (Said version)) w = (Next, with_version version w)
 
-  -- after a look at a cell: one without a pad is skipped
+  -- after a look at a cell: one without a pad is skipped, and if it is known what the peer has, the peer is not asked
   abbrev pub named : Result (Option (List ℕ)) Fault → World P → Stage × World P
   named (Ok None) w = (Over, w)
-  named (Ok (Some name)) w = (Pulling name 0, w)
+  named (Ok (Some name)) w = (first_of name (known_at w.known w.cell), w)
   named (Err fault) w = (Failed fault, w)
 
   -- after this server's own vector: what it lacks is asked for, if the peer can read the vector
@@ -238,19 +285,28 @@ module _ {P : Type 0} where
   told_vector name turn (Some (Said seen)) w = (Lacking name turn seen, w)
 
   -- after a look for what the peer lacks
-  abbrev pub lacked : List ℕ → ℕ → Result (Option (List Op)) Fault → World P → Stage × World P
-  lacked name turn (Ok None) w = (Over, w)
-  lacked name turn (Ok (Some ops)) w = (Giving name turn 0 ops, w)
-  lacked name turn (Err fault) w = (Failed fault, w)
+  abbrev pub lacked : List ℕ → ℕ → List Counted → Result (Option (List Op)) Fault → World P
+      → Stage × World P
+  lacked name turn seen (Ok None) w = (Over, w)
+  lacked name turn seen (Ok (Some ops)) w = (Giving name turn seen 0 ops, w)
+  lacked name turn seen (Err fault) w = (Failed fault, w)
 
   -- after the answer to a push
-  abbrev pub told_push : List ℕ → ℕ → ℕ → Bool → Bool → Option (Told Pushed) → World P
-      → Stage × World P
-  told_push name turn due gained whole None w = (Failed PeerReply, w)
-  told_push name turn due gained whole (Some told) w = (
-    Hearing name turn due (gained || is_delivered told) whole,
+  abbrev pub told_push : List ℕ → ℕ → List Counted → ℕ → Bool → Bool → Bool → Option (Told Pushed)
+      → World P → Stage × World P
+  told_push name turn seen due gained whole all None w = (Failed PeerReply, w)
+  told_push name turn seen due gained whole all (Some told) w = (
+    Hearing name turn seen due (gained || is_delivered told) whole (all && is_had told),
     counted (after_push told) w,
   )
+
+  -- a push begins: the peer is asked what it has, unless that is known. What is known is forgotten until the peer's answers
+  -- to the pushes say it anew
+  abbrev pub Begins : List ℕ → ℕ → Option (List Counted) → World P → Stage → World P → Type 0
+  Begins name turn None old stage new = Sends (vector_request name) old new
+      × (stage ≡ Counting name turn)
+  Begins name turn (Some seen) old stage new = (stage ≡ Lacking name turn seen)
+      × (new ≡ noted None old)
 
 -- how a round proceeds
 module _ {P : Type 0} (calls : P → Request → Answer → P → Type 0)
@@ -290,26 +346,26 @@ module _ {P : Type 0} (calls : P → Request → Answer → P → Type 0)
       × ((stage, new) ≡ taken name turn gained ops (own_count said) mid)
   Goes (Pushing name turn) old stage new =
       Choice (nat_le MAX_PUSH_TURNS turn) ((stage ≡ Over) × (new ≡ old))
-      (Sends (vector_request name) old new
-      × (stage ≡ Counting name turn))
+      (Begins name turn (known_at old.known old.cell) old stage new)
   Goes (Counting name turn) old stage new =
       (said : Option (Told (List Counted))) × (mid : World P) × Heard vector_answer said old mid
       × ((stage, new) ≡ told_vector name turn said mid)
   Goes (Lacking name turn seen) old stage new =
       (said : Answer) × (mid : World P)
       × Asks name (act.Pull seen MAX_OPS (Some MAX_BATCH)) said old mid
-      × ((stage, new) ≡ lacked name turn (own_ops said) mid)
-  Goes (Giving name turn due []) old stage new = (stage ≡ Hearing name turn due false true)
-      × (new ≡ old)
-  Goes (Giving name turn due (op ∷ ops)) old stage new =
+      × ((stage, new) ≡ lacked name turn seen (own_ops said) mid)
+  Goes (Giving name turn seen due []) old stage new =
+      (stage ≡ Hearing name turn seen due false true true) × (new ≡ old)
+  Goes (Giving name turn seen due (op ∷ ops)) old stage new =
       Choice (is_readable old.version (op_in_v1 op)) (Sends (push_request name op) old new
-      × (stage ≡ Giving name turn (due + 1) ops))
-      ((stage ≡ Hearing name turn due false false) × (new ≡ counted with_unsaid old))
-  Goes (Hearing name turn zero gained whole) old stage new =
-      (stage ≡ (if gained && whole then Pushing name (turn + 1) else Over)) × (new ≡ old)
-  Goes (Hearing name turn (suc due) gained whole) old stage new =
+      × (stage ≡ Giving name turn (with_op op seen) (due + 1) ops))
+      ((stage ≡ Hearing name turn seen due false false true) × (new ≡ counted with_unsaid old))
+  Goes (Hearing name turn seen zero gained whole all) old stage new =
+      (stage ≡ (if gained && whole then Pushing name (turn + 1) else Over))
+      × (new ≡ noted (if_all all seen) old)
+  Goes (Hearing name turn seen (suc due) gained whole all) old stage new =
       (said : Option (Told Pushed)) × (mid : World P) × Heard push_answer said old mid
-      × ((stage, new) ≡ told_push name turn due gained whole said mid)
+      × ((stage, new) ≡ told_push name turn seen due gained whole all said mid)
   Goes Over old stage new = (stage ≡ Next) × (new ≡ past old)
   Goes Ended old stage new = ⊥
   Goes (Failed fault) old stage new = ⊥

@@ -5,8 +5,9 @@ ghost use Rattle.relay.specs.Kept.{ready, Visited};
 ghost use Rattle.relay.specs.Listed.{by_place, count_of};
 ghost use Rattle.relay.specs.Round.Stage.{Next};
 
+use crate::exchanged::Exchanged;
+use crate::known_vectors::KnownVectors;
 use crate::peer_lines::LineExchange;
-use crate::relayed::Relayed;
 use crate::round::visit_cells;
 use conversation::Pads;
 use pad_core::{Reply, Request};
@@ -16,7 +17,7 @@ use wire_lines::Fault;
 
 /// Exchanges the operations of only the pads of the listed cells, in the order of the list, as `visit_cells` does for
 /// all cells. It skips cells without a pad, and numbers that are not those of cells. For an empty list, nothing is
-/// written and nothing is read.
+/// written and nothing is read. What the peer is known to have is by the positions in the list.
 ///
 /// Of a list of more than 4,294,967,295 numbers, which is more than there can be cells, only the first 4,294,967,295
 /// count.
@@ -26,17 +27,18 @@ pub fn visit_listed<P: Pads, L: LineExchange>(
     link: &mut L,
     version: Version,
     cells: &[u32],
-) -> Result<Relayed, Fault>
+    known: KnownVectors,
+) -> Result<Exchanged, Fault>
     // The stages are those of a visit whose cells are the positions in the list.
-    ensures all { IfOk result (λ relayed. Visited P.calls (by_place cells.now P.names)
-        (ready version (count_of cells.now) pads.old (L.wire link.old)) relayed (L.wire link.new)
-        pads.new) }
+    ensures all { IfOk result (λ done. Visited P.calls (by_place cells.now P.names)
+        (ready version (count_of cells.now) known pads.old (L.wire link.old)) done
+        (L.wire link.new) pads.new) }
     ensures fault { IfErr result (λ fault. Breaks P.calls (by_place cells.now P.names) fault Next
-        (ready version (count_of cells.now) pads.old (L.wire link.old)) pads.new
+        (ready version (count_of cells.now) known pads.old (L.wire link.old)) pads.new
         (L.wire link.new)) }
 {
     let mut chosen = Chosen { pads, cells };
-    visit_chosen(alloc, &mut chosen, link, version)
+    visit_chosen(alloc, &mut chosen, link, version, known)
 }
 
 // The same for pads that are borrowed, and stay so.
@@ -45,17 +47,18 @@ fn visit_chosen<P: Pads, L: LineExchange>(
     chosen: &mut Chosen<'_, P>,
     link: &mut L,
     version: Version,
-) -> Result<Relayed, Fault>
+    known: KnownVectors,
+) -> Result<Exchanged, Fault>
     ensures same_reference { chosen.new.pads.ghost_name ≡ chosen.old.pads.ghost_name }
-    ensures all { IfOk result (λ relayed. Visited P.calls (by_place chosen.old.cells.now P.names)
-        (ready version (count_of chosen.old.cells.now) chosen.old.pads.now (L.wire link.old))
-        relayed (L.wire link.new) chosen.new.pads.now) }
+    ensures all { IfOk result (λ done. Visited P.calls (by_place chosen.old.cells.now P.names)
+        (ready version (count_of chosen.old.cells.now) known chosen.old.pads.now (L.wire link.old))
+        done (L.wire link.new) chosen.new.pads.now) }
     ensures fault { IfErr result (λ fault. Breaks P.calls (by_place chosen.old.cells.now P.names)
         fault Next
-        (ready version (count_of chosen.old.cells.now) chosen.old.pads.now (L.wire link.old))
+        (ready version (count_of chosen.old.cells.now) known chosen.old.pads.now (L.wire link.old))
         chosen.new.pads.now (L.wire link.new)) }
 {
-    visit_cells(alloc, chosen, link, version)
+    visit_cells(alloc, chosen, link, version, known)
 }
 
 /// The pads of the listed cells, in the order of the list: here the number of a cell is its position in the list.

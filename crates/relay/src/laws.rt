@@ -1,5 +1,5 @@
 //! Laws of rounds, each the contract of a function that does nothing.
-ghost use Rattle.relay.specs.Laws.{AllCellsLaw, GreetedLaw, MissedLaw, PulledLaw, PushedLaw};
+ghost use Rattle.relay.specs.Laws.{AllCellsLaw, GreetedLaw, MissedLaw, OneRequestLaw, PulledLaw, PushedLaw};
 
 use conversation::Pads;
 
@@ -20,4 +20,10 @@ pub fn all_cells_law<P: Pads>()
 pub fn turns_law<P: Pads>()
     ensures pulled { PulledLaw P.calls P.names }
     ensures pushed { PushedLaw P.calls P.names }
+{}
+
+/// If it is known what a peer has of a pad, and the pad has one operation more that the peer delivers, this operation is
+/// all that the peer is sent, and it is known again what it has.
+pub fn one_request_law<P: Pads>()
+    ensures { OneRequestLaw P.calls P.names }
 {}

@@ -6,7 +6,9 @@
 
 mod ask;
 mod chosen;
+mod exchanged;
 mod hear;
+mod known_vectors;
 mod laws;
 mod limits;
 mod peer_lines;
@@ -17,6 +19,8 @@ mod round;
 mod talk;
 
 pub use chosen::visit_listed;
+pub use exchanged::Exchanged;
+pub use known_vectors::KnownVectors;
 pub use laws::{all_cells_law, greeting_law};
 pub use limits::{MAX_OPS, MAX_PULL_TURNS, MAX_PUSH_TURNS};
 pub use peer_lines::{LineExchange, PeerLines};

@@ -2,14 +2,16 @@
 ghost use Rattle.std.specs.Prelude.{◌≡◌, ◌<◌, IfOk, IfErr, OnOk};
 ghost use Rattle.relay.specs.Breaks.{Breaks};
 ghost use Rattle.relay.specs.Kept.{begun, ready, Greets, IsUnsent, Made, MissesGreeting, Visited, world};
-ghost use Rattle.relay.specs.Round.{Reaches, line_of};
+ghost use Rattle.relay.specs.Round.{Reaches, first_of, known_at, line_of};
 ghost use Rattle.relay.specs.Wire.{Writes};
 ghost use Rattle.wire_json.specs.Peers.{peer_request};
-ghost use Rattle.relay.specs.Round.Stage.{Greeting, Next, Over, Pulling};
+ghost use Rattle.relay.specs.Round.Stage.{Greeting, Next, Over};
 ghost use Rattle.conversation.specs.Connection.{ThenEnds};
 
 use crate::ask::name_in;
+use crate::exchanged::Exchanged;
 use crate::hear::hear_version;
+use crate::known_vectors::KnownVectors;
 use crate::peer_lines::LineExchange;
 use crate::pull::pull_pad;
 use crate::push::push_pad;
@@ -63,7 +65,8 @@ fn make_round<P: Pads, L: LineExchange>(
         (begun (P.width pads.old) pads.old (L.wire link.old)) pads.new (L.wire link.new)) }
 {
     let version = greet(alloc, link, own, token)?;
-    visit_cells(alloc, pads, link, version)
+    let done = visit_cells(alloc, pads, link, version, KnownVectors::new(alloc))?;
+    Ok(done.relayed)
 }
 
 /// Logs in at the peer, with this server's number and the shared token, and returns the version that the peer reads.
@@ -91,8 +94,9 @@ pub fn greet<L: LineExchange>(
 }
 
 /// Exchanges the operations of the pads of all cells with a peer that was greeted and reads this version: pulls and
-/// pushes pad by pad. It ends neither session, so another visit may follow over the same link; after a visit that broke
-/// off, the link is of no more use. `visit_listed` visits only the cells of a list.
+/// pushes pad by pad. A pad of which it is known what the peer has is only pushed, and the peer is asked nothing: a letter
+/// is one request. It ends neither session, so another visit may follow over the same link, with what is then known; after
+/// a visit that broke off, the link is of no more use. `visit_listed` visits only the cells of a list.
 ///
 /// `PeerReply`: a line of the peer was not a reply.
 pub fn visit_cells<P: Pads, L: LineExchange>(
@@ -100,27 +104,33 @@ pub fn visit_cells<P: Pads, L: LineExchange>(
     pads: &mut P,
     link: &mut L,
     version: Version,
-) -> Result<Relayed, Fault>
-    // On success, all stages from the first cell on were made, and what was written and heard is theirs.
-    ensures all { IfOk result (λ relayed. Visited P.calls P.names
-        (ready version (P.width pads.old) pads.old (L.wire link.old)) relayed (L.wire link.new)
+    known: KnownVectors,
+) -> Result<Exchanged, Fault>
+    // On success, all stages from the first cell on were made, and what was written, heard and learned is theirs.
+    ensures all { IfOk result (λ done. Visited P.calls P.names
+        (ready version (P.width pads.old) known pads.old (L.wire link.old)) done (L.wire link.new)
         pads.new) }
 
     // On a fault, some of them were made, and a prefix of what they write was written.
     ensures fault { IfErr result (λ fault. Breaks P.calls P.names fault Next
-        (ready version (P.width pads.old) pads.old (L.wire link.old)) pads.new (L.wire link.new)) }
+        (ready version (P.width pads.old) known pads.old (L.wire link.old)) pads.new
+        (L.wire link.new)) }
 {
     let mut talk = Talk {
         cells: pads.cells(),
         cell: 0,
         version,
         relayed: Relayed::new(),
+        known,
     };
     while talk.cell < talk.cells {
         exchange_cell(alloc, pads, link, &mut talk)?;
         talk.cell += 1;
     }
-    Ok(talk.relayed)
+    Ok(Exchanged {
+        relayed: talk.relayed,
+        known: talk.known,
+    })
 }
 
 /// Sends the greeting.
@@ -160,7 +170,8 @@ fn exchange_cell<P: Pads, L: LineExchange>(
     }
 }
 
-/// Exchanges a pad: first pulls what the peer has, then pushes what it lacks.
+/// Exchanges a pad: first pulls what the peer has, then pushes what it lacks. If it is known what the peer has, it only
+/// pushes.
 fn exchange_pad<P: Pads, L: LineExchange>(
     alloc: Global,
     pads: &mut P,
@@ -168,13 +179,18 @@ fn exchange_pad<P: Pads, L: LineExchange>(
     talk: &mut Talk,
     pad: &Name,
 ) -> Result<(), Fault>
-    ensures goes { IfOk result (λ _. Reaches P.calls P.names (Pulling pad.now 0)
+    ensures goes { IfOk result (λ _. Reaches P.calls P.names
+        (first_of pad.now (known_at talk.old.known talk.old.cell))
         (world talk.old pads.old (L.wire link.old))
         Over (world talk.new pads.new (L.wire link.new))) }
-    ensures breaks { IfErr result (λ fault. Breaks P.calls P.names fault (Pulling pad.now 0)
+    ensures breaks { IfErr result (λ fault. Breaks P.calls P.names fault
+        (first_of pad.now (known_at talk.old.known talk.old.cell))
         (world talk.old pads.old (L.wire link.old)) pads.new (L.wire link.new)) }
     ensures cell { (talk.new.cell ≡ talk.old.cell) × (talk.new.cells ≡ talk.old.cells) }
 {
+    if talk.is_known() {
+        return push_pad(alloc, pads, link, talk, pad);
+    }
     if !pull_pad(alloc, pads, link, talk, pad)? {
         return Ok(());
     }

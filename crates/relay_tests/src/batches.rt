@@ -1,6 +1,6 @@
 //! Batches of operations, from current and older peers and to them.
-use crate::stage::{text_of, typed_on};
-use relay::{PeerLines, Relayed, greet, visit_cells};
+use crate::stage::{kinds_of, typed_on};
+use relay::{KnownVectors, PeerLines, Relayed, greet, visit_cells};
 use std::alloc::Global;
 use std::process::Abort;
 use std::test::Fail;
@@ -53,8 +53,7 @@ fn add_counts(alloc: Global, text: &mut String, replica: u32, count: u32) -> Res
     Ok(())
 }
 
-// Visits one pad, on which ann has typed a number of letters. Returns the requests that were written, one letter for
-// each: `g` for the greeting, `l` for a pull, `v` for a vector and `s` for a push.
+// Visits one pad, on which ann has typed a number of letters. Returns the requests that were written, as `kinds_of` does.
 fn asked(
     rt: &impl Abort,
     alloc: Global,
@@ -65,30 +64,11 @@ fn asked(
     let mut pads = typed_on(alloc, 1, 0, letters)?;
     let mut link = PeerLines::new(alloc, Input::new(peer.as_bytes()), Output::new(alloc))?;
     let version = greet(alloc, &mut link, 1, "p2")?;
-    let relayed = visit_cells(alloc, &mut pads, &mut link, version)?;
+    let known = KnownVectors::new(alloc);
+    let relayed = visit_cells(alloc, &mut pads, &mut link, version, known)?.relayed;
     assert!(rt; relayed == wanted, "wanted {wanted:?}, came {relayed:?}");
     let (_input, output) = link.into_parts();
-    let mut kinds = String::new(alloc);
-    for line in text_of(output.bytes()).lines() {
-        kinds.push_str(kind_of(line))?;
-    }
-    Ok(kinds)
-}
-
-fn kind_of(line: &str) -> &'static str {
-    if line.starts_with(r#"{"batch":256,"do":"pull","max":4,"#) {
-        return "l";
-    }
-    if line.starts_with(r#"{"do":"vector","#) {
-        return "v";
-    }
-    if line.starts_with(r#"{"do":"push","#) {
-        return "s";
-    }
-    if line.starts_with(r#"{"do":"peer","#) {
-        return "g";
-    }
-    "?"
+    kinds_of(alloc, output.bytes())
 }
 
 #[test]

@@ -10,6 +10,8 @@ mod batches;
 #[cfg(test)]
 mod gates;
 #[cfg(test)]
+mod known;
+#[cfg(test)]
 mod listed;
 #[cfg(test)]
 mod loopback;

@@ -1,6 +1,6 @@
 //! Visits to the cells of a list, over one link.
 use crate::stage::{text_of, typed_on};
-use relay::{PeerLines, Relayed, greet, visit_cells, visit_listed};
+use relay::{KnownVectors, PeerLines, Relayed, greet, visit_cells, visit_listed};
 use std::alloc::Global;
 use std::process::Abort;
 use std::test::Fail;
@@ -21,7 +21,7 @@ const DELIVERED: &str = concat!(
     "\n"
 );
 
-// The four requests for a letter that ann typed on the pad `p17`.
+// The four requests for a letter that ann typed on the pad `p17`, if nothing is kept of what the peer has.
 const FOR_A_LETTER: &str = concat!(
     r#"{"batch":256,"do":"pull","max":4,"pad":"p17","seen":[[1,1]]}"#,
     "\n",
@@ -68,7 +68,9 @@ fn visit_lists(alloc: Global, lists: &[&[u32]], peer: &[&str]) -> Result<Visited
     let mut ended = Vec::new(alloc);
     let version = greet(alloc, &mut link, 1, "p2")?;
     for cells in lists {
-        ended.push(visit_listed(alloc, &mut pads, &mut link, version, cells))?;
+        let known = KnownVectors::new(alloc);
+        let visited = visit_listed(alloc, &mut pads, &mut link, version, cells, known);
+        ended.push(visited.map(|done| done.relayed))?;
     }
     let (_input, output) = link.into_parts();
     Ok(Visited { output, ended })
@@ -159,7 +161,8 @@ fn a_visit_to_all_cells_passes_none(rt: HostRuntime) -> Result<(), Fail> {
         Output::new(rt.alloc()),
     )?;
     let version = greet(rt.alloc(), &mut link, 1, "p2")?;
-    let relayed = visit_cells(rt.alloc(), &mut pads, &mut link, version)?;
-    assert!(&rt; relayed == Relayed { pads: 3, ..NOTHING });
+    let known = KnownVectors::new(rt.alloc());
+    let done = visit_cells(rt.alloc(), &mut pads, &mut link, version, known)?;
+    assert!(&rt; done.relayed == Relayed { pads: 3, ..NOTHING });
     Ok(())
 }

@@ -109,3 +109,41 @@ fn type_letters(
     }
     Ok(())
 }
+
+/// Types a letter more at the start of the pad `p0`, which has this revision, between two visits.
+pub fn type_another(alloc: Global, pads: &mut TypedPads, rev: u32) -> Result<(), Fail> {
+    pads.end(alloc);
+    let _hello = pads.call(alloc, &request(alloc, HELLO)?)?;
+    let _joined = pads.call(alloc, &request(alloc, r#"{"do":"join","pad":"p0"}"#)?)?;
+    let line = format!(in alloc; r#"{{"at":0,"do":"insert","pad":"p0","rev":{rev},"text":"x"}}"#)?;
+    let _typed = pads.call(alloc, &request(alloc, line.as_str())?)?;
+    pads.end(alloc);
+    let _session = pads.relay(alloc, 2)?;
+    Ok(())
+}
+
+/// The requests that were written, one letter for each: `g` for the greeting, `l` for a pull, `v` for a vector and `s`
+/// for a push.
+pub fn kinds_of(alloc: Global, written: &[u8]) -> Result<String, Fail> {
+    let mut kinds = String::new(alloc);
+    for line in text_of(written).lines() {
+        kinds.push_str(kind_of(line))?;
+    }
+    Ok(kinds)
+}
+
+fn kind_of(line: &str) -> &'static str {
+    if line.starts_with(r#"{"batch":256,"do":"pull","max":4,"#) {
+        return "l";
+    }
+    if line.starts_with(r#"{"do":"vector","#) {
+        return "v";
+    }
+    if line.starts_with(r#"{"do":"push","#) {
+        return "s";
+    }
+    if line.starts_with(r#"{"do":"peer","#) {
+        return "g";
+    }
+    "?"
+}

@@ -26,7 +26,7 @@ returns-then-branch-clause-goes g c =
     let at = c.in-Some-Said in
     pulled_taken g.P.Pads.calls g.P.Pads.names _ _ c.in_ok-ops.field-0 at.ops c.take_ops.result _ Gained
     c.args.talk.now _ c.take_ops.new.talk _ _ _ _ (at.is ∙ ap Some at.field-0-is) c.in_ok-ops.ensures.heard
-    (ap (λ r. record { cells = c.args.talk.now.cells; cell = c.args.talk.now.cell; version = c.args.talk.now.version; relayed = r }) c.with_pull-talk.ensures)
+    (ap (λ r. record { cells = c.args.talk.now.cells; cell = c.args.talk.now.cell; version = c.args.talk.now.version; relayed = r; known = c.args.talk.now.known }) c.with_pull-talk.ensures)
     (c.in_ok-take_ops.was ∙ ap Ok c.if-branch.true) c.take_ops.ensures.goes refl
 
 pub returns-else-branch-clause-goes : goal.returns-else-branch-clause-goes
@@ -34,7 +34,7 @@ returns-else-branch-clause-goes g c =
     let at = c.in-Some-Said in
     pulled_taken g.P.Pads.calls g.P.Pads.names _ _ c.in_ok-ops.field-0 at.ops c.take_ops.result _ Spent
     c.args.talk.now _ c.take_ops.new.talk _ _ _ _ (at.is ∙ ap Some at.field-0-is) c.in_ok-ops.ensures.heard
-    (ap (λ r. record { cells = c.args.talk.now.cells; cell = c.args.talk.now.cell; version = c.args.talk.now.version; relayed = r }) c.with_pull-talk.ensures)
+    (ap (λ r. record { cells = c.args.talk.now.cells; cell = c.args.talk.now.cell; version = c.args.talk.now.version; relayed = r; known = c.args.talk.now.known }) c.with_pull-talk.ensures)
     (c.in_ok-take_ops.was ∙ ap Ok c.if-branch.false) c.take_ops.ensures.goes refl
 
 pub returns-in_err-take_ops-clause-breaks : goal.returns-in_err-take_ops-clause-breaks
@@ -44,5 +44,5 @@ returns-in_err-take_ops-clause-breaks g c =
     (pulled_none g.P.Pads.calls g.P.Pads.names _ _ c.in_ok-ops.field-0 at.ops c.in_err-take_ops.field-0.0
     c.args.talk.now _ _ _ _ _
     (at.is ∙ ap Some at.field-0-is) c.in_ok-ops.ensures.heard
-    (ap (λ r. record { cells = c.args.talk.now.cells; cell = c.args.talk.now.cell; version = c.args.talk.now.version; relayed = r }) c.with_pull-talk.ensures)
+    (ap (λ r. record { cells = c.args.talk.now.cells; cell = c.args.talk.now.cell; version = c.args.talk.now.version; relayed = r; known = c.args.talk.now.known }) c.with_pull-talk.ensures)
     c.in_err-take_ops.ensures.lacks)

@@ -21,7 +21,7 @@ loop-op-preserved-then-gained g c = record {
   goes = takes_more g.P.Pads.calls g.P.Pads.names _ c.in-Some.op _ _ _ c.loop-op.gained _ c.deliver.result _
       c.args.talk.now c.loop-op.talk _ _ _ _ c.in-Some.ensures.steps.0
       (c.in_ok-count.was ∙ ap Ok c.in-Some-2.is) c.deliver.ensures.asks (rw c.if-gained.true refl)
-      (ap (λ r. record { cells = c.loop-op.talk.cells; cell = c.loop-op.talk.cell; version = c.loop-op.talk.version; relayed = r }) c.with_pulled-talk.ensures) c.loop-op.invariant.goes;
+      (ap (λ r. record { cells = c.loop-op.talk.cells; cell = c.loop-op.talk.cell; version = c.loop-op.talk.version; relayed = r; known = c.loop-op.talk.known }) c.with_pulled-talk.ensures) c.loop-op.invariant.goes;
   cell = c.loop-op.invariant.cell;
 }
 
@@ -30,7 +30,7 @@ loop-op-preserved-else-gained g c = record {
   goes = takes_more g.P.Pads.calls g.P.Pads.names _ c.in-Some.op _ _ _ c.loop-op.gained _ c.deliver.result _
       c.args.talk.now c.loop-op.talk _ _ _ _ c.in-Some.ensures.steps.0
       (c.in_ok-count.was ∙ ap Ok c.in-Some-2.is) c.deliver.ensures.asks (rw c.if-gained.false refl)
-      (ap (λ r. record { cells = c.loop-op.talk.cells; cell = c.loop-op.talk.cell; version = c.loop-op.talk.version; relayed = r }) c.with_pulled-talk.ensures) c.loop-op.invariant.goes;
+      (ap (λ r. record { cells = c.loop-op.talk.cells; cell = c.loop-op.talk.cell; version = c.loop-op.talk.version; relayed = r; known = c.loop-op.talk.known }) c.with_pulled-talk.ensures) c.loop-op.invariant.goes;
   cell = c.loop-op.invariant.cell;
 }
 
@@ -39,7 +39,7 @@ loop-op-preserved g c = record {
   goes = takes_more g.P.Pads.calls g.P.Pads.names _ c.in-Some.op _ _ _ c.loop-op.gained _ c.deliver.result _
       c.args.talk.now c.loop-op.talk _ _ _ _ c.in-Some.ensures.steps.0
       (c.in_ok-count.was ∙ ap Ok c.in-None-2.is) c.deliver.ensures.asks refl
-      (ap (λ r. record { cells = c.loop-op.talk.cells; cell = c.loop-op.talk.cell; version = c.loop-op.talk.version; relayed = r }) c.with_refused-talk.ensures) c.loop-op.invariant.goes;
+      (ap (λ r. record { cells = c.loop-op.talk.cells; cell = c.loop-op.talk.cell; version = c.loop-op.talk.version; relayed = r; known = c.loop-op.talk.known }) c.with_refused-talk.ensures) c.loop-op.invariant.goes;
   cell = c.loop-op.invariant.cell;
 }
 

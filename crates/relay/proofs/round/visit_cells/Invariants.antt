@@ -8,7 +8,7 @@ use Rattle.relay.proofs.round.visit_cells.Given as goal
 abbrev pub invariant-loop-talk : goal.invariant-loop-talk
 invariant-loop-talk g l = record {
   goes : Reaches g.P.Pads.calls g.P.Pads.names Next
-      (ready l.fn.version (g.P.Pads.width l.fn.pads) l.fn.pads (g.L.LineExchange.wire l.fn.link))
+      (ready l.fn.version (g.P.Pads.width l.fn.pads) l.fn.known l.fn.pads (g.L.LineExchange.wire l.fn.link))
       Next (world l.talk l.pads (g.L.LineExchange.wire l.link));
   fits : l.talk.cells < 4294967296;
 }

@@ -89,7 +89,7 @@ def follow(client, seen):
     """Notes when each revision is shown to a reader."""
     rev = 0
     while rev < len(seen):
-        rev = client.does(do="changes", pad="p", rev=rev, wait=True)["now"]
+        rev = client.does(do="changes", pad="p", rev=rev, wait=30)["now"]
         now = time.monotonic()
         for made in range(rev):
             seen[made] = seen[made] or now
@@ -108,6 +108,7 @@ def way(program, delay, letters):
         far.does(do="create", pad="p")
         ann.does(do="create", pad="p")
         ann.does(do="grant", pad="p", author="bob", right="read")
+        near.does(do="join", pad="p")
         time.sleep(1)
         sent, shown, arrived = [0.0] * letters, [0.0] * letters, [0.0] * letters
         threads = [threading.Thread(target=follow, args=pair) for pair in ((near, shown), (far, arrived))]

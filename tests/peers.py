@@ -158,8 +158,12 @@ class Wire:
     def accept(self):
         while True:
             one, _ = self.listener.accept()
+            try:
+                other = socket.create_connection(("127.0.0.1", self.to))
+            except OSError:  # the server is not there yet
+                one.close()
+                continue
             self.connections += 1
-            other = socket.create_connection(("127.0.0.1", self.to))
             for pair in ((one, other, True), (other, one, False)):
                 threading.Thread(target=self.carry, args=pair, daemon=True).start()
 
@@ -172,24 +176,27 @@ class Wire:
 
 
 def a_letter_costs_a_peer_one_request():
-    """Of 40 pads one is typed on: the other server is sent the letter, over the connection that there is, and asked nothing."""
+    """Of 40 pads one is typed on: the other server is sent the letter, over the connection that there is, and neither asks the
+    other anything. The other server does not send the letter back."""
     ports = dict(zip((1, 2), free_ports(2)))
-    wire = Wire(ports[2])
-    second = Server(2, ports, ["bob"], [1])
+    wire, back = Wire(ports[2]), Wire(ports[1])
+    second = Server(2, {1: back.port, 2: ports[2]}, ["bob"], [1])
     first = Server(1, {1: ports[1], 2: wire.port}, ["ann"], [2])
     ann, bob = first.author("ann"), second.author("bob")
     for number in range(40):
         bob.does(do="create", pad=f"p{number}")
         ann.does(do="create", pad=f"p{number}")
+    wait_for("a first round of the other server", lambda: len(back.requests) > 40)
     for round in range(3):
         time.sleep(1.5)
-        before, connections = len(wire.requests), wire.connections
+        before, before_back, connections = len(wire.requests), len(back.requests), wire.connections
         ann.does(do="insert", pad="p7", rev=round, at=0, text="a")
         wait_for("the letter at bob's server", lambda: bob.does(do="text", pad="p7")["text"] == "a" * (round + 1))
         time.sleep(1.5)
         asked = wire.requests[before:]
         want([request["do"] for request in asked], ["push"], f"what is asked in round {round}")
         want({request["pad"] for request in asked}, {"p7"}, "about which pads")
+        want(back.requests[before_back:], [], f"what is asked back in round {round}")
         want((connections, wire.connections), (1, 1), "the connections")
     first.stop()
     second.stop()

@@ -25,8 +25,8 @@ use Rattle.relay.specs.Round.{lacked, line_of, noted, own_ops, told_vector, with
 use Rattle.relay.specs.Round.Stage.{Counting, Giving, Hearing, Lacking, Over, Pushing}
 use Rattle.relay.specs.Wire.{Wire, HearsAs, MissesAnswer, Writes}
 use Rattle.relay.specs.declared.limits.TheConstants.{MAX_OPS, MAX_PUSH_TURNS}
-use Rattle.relay.specs.declared.push.Given.{Given}
-use Rattle.relay.specs.declared.push.Heard.{Heard}
+use Rattle.relay.specs.declared.push.GivenBatch.{GivenBatch}
+use Rattle.relay.specs.declared.push.HeardBatch.{HeardBatch}
 use Rattle.relay.specs.declared.talk.Talk.{Talk}
 use Rattle.relay.proofs.Pulls.{chosen_false, chosen_true, no_memory, was_asked}
 use Rattle.relay.specs.Round.Reaches.{here}
@@ -318,7 +318,7 @@ module _ {P : Type 0} (calls : P → Request → Answer → P → Type 0) (names
       later calls names fault _ _ _ _ pads b (lacks_so turn) (breaks turn pads)
 
   -- or hearing the answers does
-  pub heard_breaks : (name : List ℕ) (fault : Fault) (seen start after : List Counted) (ops : List Op) (given : Given)
+  pub heard_breaks : (name : List ℕ) (fault : Fault) (seen start after : List Counted) (ops : List Op) (given : GivenBatch)
       (first mid : Talk) (old pads : P) (a b c : Wire)
       → ((turn : ℕ) → Reaches calls names (Lacking name turn seen) (world first old a) (Giving name turn start 0 ops)
       (world first pads a))
@@ -329,7 +329,7 @@ module _ {P : Type 0} (calls : P → Request → Answer → P → Type 0) (names
       (breaks name turn after given.whole pads)
 
   -- all was given and heard: it is known what the peer has, if it has all
-  pub pushed_all : (name : List ℕ) (seen start after : List Counted) (ops : List Op) (given : Given) (heard : Heard)
+  pub pushed_all : (name : List ℕ) (seen start after : List Counted) (ops : List Op) (given : GivenBatch) (heard : HeardBatch)
       (first mid last next : Talk) (old pads : P) (a b c : Wire) (known : Option (List Counted)) (more : Bool)
       → ((turn : ℕ) → Reaches calls names (Lacking name turn seen) (world first old a) (Giving name turn start 0 ops)
       (world first pads a))

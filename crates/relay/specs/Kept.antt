@@ -24,8 +24,8 @@ use Rattle.relay.specs.declared.exchanged.Exchanged.{Exchanged}
 use Rattle.relay.specs.declared.limits.TheConstants.{MAX_OPS}
 use Rattle.relay.specs.declared.pull.PullTurn.{PullTurn}
 use Rattle.relay.specs.declared.pull.PullTurn.TheVariants as turn_of
-use Rattle.relay.specs.declared.push.Given.{Given}
-use Rattle.relay.specs.declared.push.Heard.{Heard}
+use Rattle.relay.specs.declared.push.GivenBatch.{GivenBatch}
+use Rattle.relay.specs.declared.push.HeardBatch.{HeardBatch}
 use Rattle.relay.specs.declared.relayed.Relayed.{Relayed}
 use Rattle.relay.specs.declared.talk.Talk.{Talk}
 
@@ -99,7 +99,7 @@ notes seen talk = record {
 -- operations of a pad were written to a peer, as far as its version can express them, or its version ended this; with
 -- them the peer has this vector
 abbrev pub Gives : {P : Type 0} → (P → Request → Answer → P → Type 0) →
-    (P → ℕ → Result (Option (List ℕ)) Refusal → P → Type 0) → List ℕ → List Op → Given →
+    (P → ℕ → Result (Option (List ℕ)) Refusal → P → Type 0) → List ℕ → List Op → GivenBatch →
     List Counted → List Counted → Talk → Wire → Talk → Wire → Type 0
 Gives {P} calls names name ops given seen after talk old then new = (turn : ℕ) (pads : P)
     → Reaches calls names (Giving name turn seen 0 ops) (world talk pads old)
@@ -107,7 +107,7 @@ Gives {P} calls names name ops given seen after talk old then new = (turn : ℕ)
 
 -- this many answers to pushes were heard
 abbrev pub HearsAll : {P : Type 0} → (P → Request → Answer → P → Type 0) →
-    (P → ℕ → Result (Option (List ℕ)) Refusal → P → Type 0) → ℕ → Heard →
+    (P → ℕ → Result (Option (List ℕ)) Refusal → P → Type 0) → ℕ → HeardBatch →
     Talk → Wire → Talk → Wire → Type 0
 HearsAll {P} calls names due heard talk old then new =
     (name : List ℕ) (turn : ℕ) (seen : List Counted) (whole : Bool) (pads : P)

@@ -23,7 +23,7 @@ use wire_lines::Fault;
 
 /// What was written of a batch.
 #[derive(Clone, Copy)]
-pub struct Given {
+pub struct GivenBatch {
     /// The operations that were written, whose answers are due.
     pub due: usize,
     /// False if the peer's version cannot express one.
@@ -32,7 +32,7 @@ pub struct Given {
 
 /// What became of a batch at the peer.
 #[derive(Clone, Copy)]
-pub struct Heard {
+pub struct HeardBatch {
     /// The peer delivered an operation.
     pub gained: bool,
     /// The peer has all of them.
@@ -143,7 +143,7 @@ fn give_all<P: Pads, L: LineExchange>(
     pad: &Name,
     ops: &[Op],
     after: &mut Seen,
-) -> Result<Given, Fault>
+) -> Result<GivenBatch, Fault>
     ensures gives { IfOk result (λ given. Gives P.calls P.names pad.now ops.now given after.old
         after.new talk.old (L.wire link.old) talk.new (L.wire link.new)) }
     ensures breaks { IfErr result (λ fault. BreaksGiving P.calls P.names fault pad.now ops.now
@@ -154,13 +154,13 @@ fn give_all<P: Pads, L: LineExchange>(
     for op in ops {
         if !talk.is_readable(op_in_v1(op)) {
             talk.relayed = talk.relayed.with_unsaid();
-            return Ok(Given { due, whole: false });
+            return Ok(GivenBatch { due, whole: false });
         }
         cover(after, op)?;
         send_push(alloc, link, pad, op)?;
         due += 1;
     }
-    Ok(Given { due, whole: true })
+    Ok(GivenBatch { due, whole: true })
 }
 
 /// Hears what became of this many operations.
@@ -169,7 +169,7 @@ fn hear_all<P: Pads, L: LineExchange>(
     link: &mut L,
     talk: &mut Talk,
     due: usize,
-) -> Result<Heard, Fault>
+) -> Result<HeardBatch, Fault>
     ensures hears { IfOk result (λ heard. HearsAll P.calls P.names due heard talk.old
         (L.wire link.old) talk.new (L.wire link.new)) }
     ensures breaks { IfErr result (λ fault. BreaksHearing P.calls P.names fault due talk.old
@@ -183,7 +183,7 @@ fn hear_all<P: Pads, L: LineExchange>(
         gained |= is_delivered(&told);
         all &= is_had(&told);
     }
-    Ok(Heard { gained, all })
+    Ok(HeardBatch { gained, all })
 }
 
 fn copy_of(seen: &Seen) -> Result<Seen, Fault>

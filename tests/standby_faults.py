@@ -10,8 +10,11 @@ from harness import Failed, Test, want
 from two_machines import Machines, files_of, wait_until_copied
 
 EDITS = 6
-STEP = 7  # each so manieth allocation is refused
-MOST = 60  # runs in which an allocation is refused
+
+# Each so manieth call fails, and each so manieth allocation is refused, in at most so many runs: in a run of all tests, and in the
+# long run.
+CALL_STEP, ALLOCATION_STEP, MOST = 2, 19, 22
+LONG_CALL_STEP, LONG_ALLOCATION_STEP, LONG_MOST = 1, 7, 60
 
 
 class FaultyMachines(Machines):
@@ -136,10 +139,10 @@ def each_confirmation_is_synced():
         raise Failed(f"the standby made {made} syncs for {EDITS + 1} confirmed steps")
 
 
-def calls_of_the_standby_fail():
+def calls_of_the_standby_fail(step):
     machines = FaultyMachines(2)
     for call, error in [("syncs", 0), ("writes", 0), ("writes", errno.ENOSPC)]:
-        for number in itertools.count(1):
+        for number in itertools.count(1, step):
             has_failed, confirmed = run_with(machines, call, number, [("error", error)])
             if has_failed:
                 check_copy(machines, confirmed)
@@ -151,31 +154,36 @@ def calls_of_the_standby_fail():
             raise Failed(f"only {number - 1} {call} failed")
 
 
-def memory_is_refused(machines):
+def memory_is_refused(machines, step, most):
     refused = 0
-    for number in itertools.count(1, STEP):
+    for number in itertools.count(1, step):
         has_failed, confirmed = run_with(machines, "allocations", number, [("everywhere", 1)])
         if has_failed:
             refused += 1
             check_copy(machines, confirmed)
         begin_again(machines)
-        if not has_failed or refused == MOST:
+        if not has_failed or refused == most:
             break
     if refused < 10:
         raise Failed(f"only {refused} allocations were refused")
 
 
-def memory_is_refused_to_the_standby():
-    memory_is_refused(FaultyMachines(2))
-
-
-def memory_is_refused_to_the_main_server():
-    memory_is_refused(FaultyMachines(1))
-
-
+STANDBY, MAIN = 2, 1
 TESTS = [
     Test("standby: each confirmation is synced", each_confirmation_is_synced),
-    Test("standby: calls of it fail", calls_of_the_standby_fail, 240),
-    Test("standby: memory is refused to it", memory_is_refused_to_the_standby, 240),
-    Test("standby: memory is refused to the main server", memory_is_refused_to_the_main_server, 240),
+    Test("standby: calls of it fail", lambda: calls_of_the_standby_fail(CALL_STEP), 240),
+    Test("standby: memory is refused to it", lambda: memory_is_refused(FaultyMachines(STANDBY), ALLOCATION_STEP, MOST), 240),
+    Test(
+        "standby: memory is refused to the main server",
+        lambda: memory_is_refused(FaultyMachines(MAIN), ALLOCATION_STEP, MOST),
+        240,
+    ),
+]
+LONG_TESTS = [
+    Test("standby: each call of it fails", lambda: calls_of_the_standby_fail(LONG_CALL_STEP), 900),
+    Test(
+        "standby: memory is refused to it often",
+        lambda: memory_is_refused(FaultyMachines(STANDBY), LONG_ALLOCATION_STEP, LONG_MOST),
+        900,
+    ),
 ]

@@ -137,7 +137,7 @@ TESTS = [
     named(pages_whose_connections_break_make_each_character_once, 150),
     named(another_client_library_speaks_with_the_socket, 60),
     named(forty_pages_type_beside_a_peer, 180),
-    named(two_windows_of_a_browser, 800),
+    named(two_windows_of_a_browser, 1_200),
     named(two_windows_of_firefox, 200),
     named(a_browser_is_killed_while_its_author_types, 300),
 ]

@@ -12,6 +12,7 @@ import time
 from pathlib import Path
 
 from listen import OUT, SERVER, build as build_listen
+from standby import free_port
 
 # Milliseconds that each direction between the servers takes.
 DELAYS = [0, 10]
@@ -21,11 +22,6 @@ AIM = 0.5
 
 # Seconds of silence between two letters, so that each is exchanged by itself.
 PAUSE = 0.05
-
-
-def free_port():
-    with socket.create_server(("127.0.0.1", 0)) as listener:
-        return listener.getsockname()[1]
 
 
 class Proxy:

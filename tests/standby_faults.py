@@ -11,8 +11,8 @@ from two_machines import Machines, files_of, wait_until_copied
 
 EDITS = 6
 
-# Each so manieth call fails, and each so manieth allocation is refused, in at most so many runs: in a run of all tests, and in the
-# long run.
+# In a run of all tests, every second call fails, and every 19th allocation is refused, in 22 runs at most. In the long run, every
+# call fails, and every seventh allocation is refused.
 CALL_STEP, ALLOCATION_STEP, MOST = 2, 19, 22
 LONG_CALL_STEP, LONG_ALLOCATION_STEP, LONG_MOST = 1, 7, 60
 

@@ -1,5 +1,8 @@
-"""Drives `pad_server --listen --store` by one writer and by 15 on one pad, beside an echo that writes and syncs as many bytes."""
+"""Drives `pad_server --listen --store` by one writer and by 15 on one pad, beside an echo that writes and syncs as many bytes, and
+by 500 on 1,000 pads; and an older program, if one is named, by the same writers in turn."""
 import os
+import shutil
+import statistics
 import subprocess
 import sys
 import tempfile
@@ -14,14 +17,38 @@ SYNCED = OUT / "synced"
 
 # So many answered edits for each sync are aimed at with 15 writers, so many times the replies a second of one writer, and so many times
 # the echo's median for one writer.
-EDITS_AIM, RATE_AIM, P50_AIM = 4, 3, 1.5
+EDITS_AIM, RATE_AIM, P50_AIM = 6, 3, 1.5
+
+# Writers, on how many pads, of how many characters, and how many times the replies a second of an older program are aimed at. Each
+# program has so many turns.
+TURNS = 3
+CASES = [(1, 1, 5_000, 1), (15, 1, 5_000, 2), (500, 1_000, 200, 2)]
 
 
-def serve(accounts, folder, writers, requests, variables=None):
-    words = ["--listen", "127.0.0.1:0", "--replica", "1", "--cells", "16", "--store", folder]
+def serve(accounts, folder, writers, requests, variables=None, program=SERVER, pads=1, size=5_000):
+    words = ["--listen", "127.0.0.1:0", "--replica", "1", "--cells", str(max(16, pads)), "--store", folder]
     words += ["--connections", str(writers + 1), "--accounts", accounts]
     environment = {**os.environ, **(variables or {})}
-    return drive(subprocess.Popen([SERVER, *words], stdout=subprocess.PIPE, env=environment), "pads", writers, 1, requests)
+    process = subprocess.Popen([program, *words], stdout=subprocess.PIPE, env=environment)
+    return drive(process, "pads", writers, pads, requests, size)
+
+
+def compare(before, requests):
+    """Drives both programs in turn, and prints the medians of each and their ratio."""
+    programs = {"before": before, "now": SERVER} if before else {"now": SERVER}
+    for writers, pads, size, aim in CASES:
+        each = max(1, requests * min(writers, 15) // writers)
+        taken = {name: [] for name in programs}
+        for turn in range(TURNS):
+            for name, program in programs.items():
+                folder = f"{name}-{writers}-{turn}"
+                taken[name].append(serve("accounts", folder, writers, each, program=program, pads=pads, size=size))
+                shutil.rmtree(folder)
+        rows = {name: [statistics.median(column) for column in zip(*rounds)] for name, rounds in taken.items()}
+        for name, row in rows.items():
+            print_row(name, writers, pads, row, size)
+        if before:
+            print(f"replies a second now over before {rows['now'][0] / rows['before'][0]:.2f}, aims {aim}")
 
 
 def echo(folder, size, requests):
@@ -37,19 +64,21 @@ def syncs_of(accounts, folder, writers, requests):
     return faults.get("syncs_made")
 
 
-def measure(flags, requests):
+def measure(flags, requests, before):
+    """`before` is another server's program, to be compared with in the same run."""
     build_listen(flags)
     subprocess.run(["rustc", *flags, "-o", SYNCED, TOP / "bench" / "drive" / "synced.rs"], check=True)
     print(f"load {os.getloadavg()[0]:.1f} on {os.cpu_count()} processors, {requests} requests of each writer")
     print(f"{'':<12}{'writers':>8}{'pads':>6}{'size':>9}{'replies/s':>12}{'p50 us':>10}{'p99 us':>10}{'p99.9 us':>11}")
     with tempfile.TemporaryDirectory(dir=OUT) as folder:
         os.chdir(folder)
-        Path("accounts").write_text("author owner t\n" + "".join(f"author w{writer} t\n" for writer in range(15)))
+        Path("accounts").write_text("author owner t\n" + "".join(f"author w{writer} t\n" for writer in range(500)))
         one = serve("accounts", "one", 1, requests)
         size = os.path.getsize("one/p0.pad") // requests
         bare = echo("bare", size, requests)
         many = serve("accounts", "many", 15, requests)
         edits = 15 * requests / syncs_of("accounts", "counted", 15, requests)
+        compare(before, requests)
     print_row("synced echo", 1, 1, bare)
     print_row("pad_server", 1, 1, one)
     print_row("pad_server", 15, 1, many)

@@ -173,8 +173,8 @@ impl Clients {
         Ok(())
     }
 
-    /// Waits until everything that the replies to be written can reveal is stored by this server, and returns how far replies
-    /// may go. None: there are no replies that may be written.
+    /// Has everything stored by this server that the replies to be written can reveal, and returns how far replies may go by
+    /// now. None: there are no replies that may be written.
     pub fn settle<T: Settle>(
         &mut self,
         settle: &T,

@@ -24,8 +24,9 @@ pub trait Settle {
     /// What was stored was counted, and this was the number. Only `settle` says so.
     ghost counted: { Self → ℕ → Type 0 };
 
-    /// Waits until everything that the replies made so far can reveal is stored by this server, and returns the number that
-    /// these replies wait for. It never falls. After an error, no more replies are written and the server ends.
+    /// Has everything stored by this server that the replies made so far can reveal, and returns the number that these
+    /// replies wait for. It never falls. It need not wait until all is stored. After an error, no more replies are written
+    /// and the server ends.
     fn settle(&self) -> io::Result<u64>
         ensures { IfOk result (counted self.now) };
 

@@ -28,7 +28,7 @@ IsUncounted noted unnoted.Memory = noted ≢ 18446744073709551615
 IsUncounted noted (unnoted.NoCell told) = ⊥
 IsUncounted noted unnoted.TooMany = noted ≡ 18446744073709551615
 
--- there were this many notes when somebody asked. `Progress::next_step` alone gives this fact
+-- there were this many notes when somebody asked. `Progress::ask` and `Progress::next_step` alone give this fact
 pub WasCounted : ℕ → Type 0
 WasCounted number = ⊤
 

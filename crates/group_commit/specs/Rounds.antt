@@ -80,6 +80,19 @@ pub record Reports (ends : Bool) (old new : RoundState) : Type 0 where
   pub left : new.left.items ≡ old.left.items
   pub failed : new.has_failed ≡ old.has_failed
 
+-- notes are due, and nothing stands against a round
+abbrev pub MayStart : RoundState → Type 0
+MayStart state = (state.has_failed ≡ false) × (state.is_round ≡ false) × (state.kept < state.noted)
+
+-- what stands against a round: a failure, another one, or that no notes are due
+abbrev pub MayNotStart : RoundState → Type 0
+MayNotStart state = (state.has_failed ≡ true) ⊎ ((state.is_round ≡ true) ⊎ (state.noted ≤ state.kept))
+
+-- a round begins wherever one may
+abbrev pub IsStart : Bool → RoundState → RoundState → Type 0
+IsStart true old new = MayStart old × Begins old new
+IsStart false old new = MayNotStart old × Stays old new
+
 -- one who waits for more notes than are on the disk finds a round, or begins one
 abbrev pub Goes : RoundState → RoundState → Type 0
 Goes old new = (old.has_failed ≡ false) × MatchBool old.is_round (Stays old new) (Begins old new)

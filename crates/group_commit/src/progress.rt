@@ -1,14 +1,14 @@
 //! The number of notes, the number of those on the disk, and the round of cells that is under way.
-ghost use Rattle.std.specs.Prelude.{◌≡◌, ◌+◌, ◌⊎◌, ◌<◌, ◌≤◌, [], true, false, IfErr, IfNone, IfOk, IfSome, OnErr, OnOk};
-ghost use Rattle.group_commit.specs.Notes.{IsUncounted, NothingSettles};
-ghost use Rattle.group_commit.specs.Rounds.{AreListed, Begins, Counts, IsOrderly, IsNextStep, Reports, Stays, Takes, is_due};
+ghost use Rattle.std.specs.Prelude.{◌≡◌, ◌+◌, ◌⊎◌, [], true, false, min, IfErr, IfNone, IfOk, IfSome, OnErr, OnOk};
+ghost use Rattle.group_commit.specs.Notes.{IsUncounted, NothingSettles, WasCounted};
+ghost use Rattle.group_commit.specs.Rounds.{AreListed, Begins, Counts, IsOrderly, IsNextStep, IsStart, MayNotStart, MayStart, Reports, Stays, Takes, is_due};
 
 use crate::appending::Committed;
 use crate::queue::{QueuedNote, Unnoted};
 use crate::round_state::RoundState;
 use std::alloc::{AllocError, Global};
 use std::io;
-use std::mem::swap;
+use std::mem::{replace, swap};
 
 /// A round of at most this many cells is done by one thread: to wake others would take longer.
 const FEW: usize = 3;
@@ -31,6 +31,15 @@ impl Job {
 #[derive(Clone, Copy, Drop)]
 pub struct Asked {
     number: u64,
+}
+
+impl Asked {
+    /// The number.
+    pub fn number(self) -> u64
+        ensures { result ≡ self.number }
+    {
+        self.number
+    }
 }
 
 /// The first `number` notes are on the disk. Only `Progress` says so.
@@ -71,6 +80,10 @@ pub struct Progress {
     last: u64,
     // For each cell, the number of the note that last made it due.
     listed: Vec<u64>,
+    // A round has ended, and those that wait for it without a thread are still to be woken.
+    is_untold: bool,
+    // The number of threads that help and are awake.
+    attending: u32,
     // Those that help are to end.
     is_over: bool,
     ghost orderly: { IsOrderly state },
@@ -99,6 +112,8 @@ impl Progress {
             state,
             last: 0,
             listed,
+            is_untold: false,
+            attending: 0,
             is_over: false,
         })
     }
@@ -168,24 +183,28 @@ impl Progress {
     }
 
     /// Returns the present number of notes. A caller that waits for earlier notes asks this first.
+    #[tactic(auto, using(crate::specs::Notes::is_counted))]
     pub fn ask(&self) -> Asked
-        ensures { result.number ≡ self.now.state.noted }
+        ensures number { result.number ≡ self.now.state.noted }
+        ensures counted { WasCounted result.number }
     {
         Asked {
             number: self.state.noted,
         }
     }
 
-    /// The first `number` notes, if they are on the disk. Nobody waits for it.
-    pub fn look(&self, number: u64) -> Option<Kept>
-        ensures some { IfSome result (λ kept. (kept.number ≡ number) × (number ≤ self.now.state.kept)
+    /// Those of the first `most` notes that are on the disk. None: nothing is settled any more. Nobody waits for it.
+    pub fn look(&self, most: u64) -> Option<Kept>
+        ensures some { IfSome result (λ kept. (kept.number ≡ min most self.now.state.kept)
             × (self.now.state.has_failed ≡ false)) }
-        ensures none { IfNone result ((self.now.state.has_failed ≡ true) ⊎ (self.now.state.kept < number)) }
+        ensures none { IfNone result (self.now.state.has_failed ≡ true) }
     {
-        if self.state.has_failed || self.state.kept < number {
+        if self.state.has_failed {
             return None;
         }
-        Some(Kept { number })
+        Some(Kept {
+            number: most.min(self.state.kept),
+        })
     }
 
     /// Returns the next step of a caller that has asked. If no round is under way and notes are due, one begins.
@@ -210,6 +229,29 @@ impl Progress {
         }
     }
 
+    /// Begins a round of the cells that are due, unless one is under way. Returns whether it did. If no notes are due, or
+    /// nothing is settled any more, none begins.
+    pub fn start(&mut self) -> bool
+        ensures { IsStart result self.old.state self.new.state }
+    {
+        if !self.is_startable() {
+            return false;
+        }
+        self.begin();
+        true
+    }
+
+    /// Returns true if notes are due, and nothing stands against a round.
+    pub fn is_startable(&self) -> bool
+        ensures may { result ≡ true → MayStart self.now.state }
+        ensures may_not { result ≡ false → MayNotStart self.now.state }
+    {
+        if self.state.has_failed || self.state.is_round {
+            return false;
+        }
+        self.state.kept < self.state.noted
+    }
+
     // Begins a round of the cells that are due.
     fn begin(&mut self)
         requires { self.old.state.is_round ≡ false }
@@ -230,6 +272,11 @@ impl Progress {
             && !self.state.is_round
             && asked.number > self.state.kept
             && self.state.noted - self.state.kept < self.last
+    }
+
+    /// Returns true if at most one note is due, and the last round had no more: a single author writes.
+    pub fn is_single(&self) -> bool {
+        self.last <= 1 && self.state.noted.saturating_sub(self.state.kept) <= 1
     }
 
     /// Returns true if enough cells of the round are left that other threads should help.
@@ -295,6 +342,42 @@ impl Progress {
         ends
     }
 
+    /// A round has ended, and one that helps is to wake those that wait for it without a thread.
+    pub fn leave_untold(&mut self) {
+        self.is_untold = true;
+    }
+
+    /// Returns true if they are still to be woken. The caller wakes them.
+    pub fn take_untold(&mut self) -> bool {
+        replace(&mut self.is_untold, false)
+    }
+
+    /// One that helps is awake. Before it sleeps, it calls `leave`.
+    pub fn attend(&mut self) {
+        self.attending = self.attending.saturating_add(1);
+    }
+
+    /// One that helps goes to sleep if it has nothing to do, or if no cell is left and another one is awake. Returns
+    /// whether it does.
+    pub fn leave(&mut self) -> bool {
+        let is_spare = self.attending > 1 && self.state.left.is_empty();
+        let leaves = is_spare || self.is_idle() || self.is_over;
+        if leaves {
+            self.attending = self.attending.saturating_sub(1);
+        }
+        leaves
+    }
+
+    /// Returns true if one that helps has nothing to do, and no other one is awake.
+    pub fn is_lonely(&self) -> bool {
+        self.attending <= 1 && self.is_idle()
+    }
+
+    /// Returns true if one that helps is to be woken: there is something to do, and all of them sleep.
+    pub fn needs_help(&self) -> bool {
+        self.attending == 0 && !self.is_idle()
+    }
+
     /// Those that help end from now on.
     pub fn end_help(&mut self) {
         self.is_over = true;
@@ -307,6 +390,7 @@ impl Progress {
 
     /// Returns true if one that helps has nothing to do, and is not to end either.
     pub fn is_idle(&self) -> bool {
-        !self.is_over && (self.state.has_failed || self.state.left.is_empty())
+        let has_cells = !self.state.has_failed && !self.state.left.is_empty();
+        !self.is_over && !self.is_untold && !has_cells && !self.is_startable()
     }
 }

@@ -301,7 +301,7 @@ module _ {P : Type 0} where
   )
 
   -- a push begins: the peer is asked what it has, unless that is known. What is known is forgotten until the peer's answers
-  -- to the pushes say it anew
+  -- to the pushes say it again
   abbrev pub Begins : List ℕ → ℕ → Option (List Counted) → World P → Stage → World P → Type 0
   Begins name turn None old stage new = Sends (vector_request name) old new
       × (stage ≡ Counting name turn)

@@ -1,6 +1,6 @@
 //! The files of a server's pads while it runs: each answer is noted under its pad's lock, and synced before its reply
 //! is written.
-ghost use Rattle.std.specs.Prelude.{◌≡◌, ◌≤◌, ◌⊎◌, true, IfErr, IfOk, OnErr, OnOk};
+ghost use Rattle.std.specs.Prelude.{◌≡◌, ◌≤◌, ◌⊎◌, true, IfErr, IfOk, IfSome, OnErr, OnOk};
 ghost use Rattle.group_commit.specs.Confirmations.{is_unasked};
 ghost use Rattle.group_commit.specs.Notes.{NothingSettles, WasCounted};
 ghost use Rattle.store_files.specs.Noting.{IsKept};
@@ -11,7 +11,7 @@ use crate::pad_device::make_room;
 use crate::promised::Promised;
 use crate::reserve::{Reserve, is_full};
 use crate::spares::{Spare, Spares};
-use group_commit::{Commits, Confirmation, Note, Unnoted};
+use group_commit::{Commits, Confirmation, Kept, Note, Unnoted, Waiters};
 use log::{error, warn};
 use pad_core::Request;
 use pad_model::{Name, Refusal};
@@ -259,26 +259,31 @@ impl Keeper {
         self.commits.has_failed()
     }
 
-    /// Waits until everything noted before is synced, or fails, and returns the number of these notes. After it, `look`
-    /// returns how many of them may be revealed.
-    pub fn sync<R: Wait>(&self, rt: &R) -> io::Result<u64>
+    /// Waits until everything noted before is synced, or fails. A server calls it before it ends.
+    pub fn sync<R: Wait>(&self, rt: &R) -> io::Result<Kept>
+        ensures { IfOk result (λ kept. WasCounted kept.number) }
+    {
+        self.commits.settle(rt, &Files::new(rt, self))
+    }
+
+    /// Has everything noted before synced, and returns the number of these notes, or fails: `look` tells how many of them
+    /// may be revealed. Where a single author writes, this thread syncs. Otherwise it does not wait, and a thread in
+    /// `help` does.
+    pub fn advance<R: Wait, T: Waiters>(&self, rt: &R, waiters: &T) -> io::Result<u64>
         ensures { IfOk result WasCounted }
     {
-        let kept = self.commits.settle(rt, &Files::new(rt, self))?;
-        Ok(kept.number())
+        self.commits.advance(rt, &Files::new(rt, self), waiters)
     }
 
     /// Returns how many of the first `most` notes may be revealed: those that are synced, and that the standby has if
     /// that was promised. None: none yet. It does not wait. It fails if the store or the standby is lost.
-    pub fn look<R: Wait>(&self, rt: &R, most: u64) -> io::Result<Option<Promised>> {
+    pub fn look<R: Wait>(&self, rt: &R, most: u64) -> io::Result<Option<Promised>>
+        ensures { IfOk result (λ found. IfSome found (λ promised. promised.kept.number ≤ most)) }
+    {
         let Some(kept) = self.commits.look(rt, most) else {
-            return if self.has_failed() {
-                Err(io::Error::from(ErrorKind::Other))
-            } else {
-                Ok(None)
-            };
+            return Err(io::Error::from(ErrorKind::Other));
         };
-        match self.copying.reach(rt, most) {
+        match self.copying.reach(rt, kept.number()) {
             Confirmation::Given(confirmed) => Ok(Some(Promised::new(kept, confirmed))),
             Confirmation::Waits => Ok(None),
             Confirmation::Lost => Err(io::Error::from(ErrorKind::TimedOut)),
@@ -363,10 +368,10 @@ impl Keeper {
         self.copying.is_lost()
     }
 
-    /// Helps other threads to append to the files of many pads, until `end_help` is called. A server calls it in threads
-    /// that do nothing else.
-    pub fn help<R: Wait>(&self, rt: &R) {
-        self.commits.help(rt, &Files::new(rt, self));
+    /// Syncs files that others leave to it, and wakes those whose replies wait, until `end_help` is called. A server calls it in
+    /// threads that do nothing else.
+    pub fn help<R: Wait, T: Waiters>(&self, rt: &R, waiters: &T) {
+        self.commits.help(rt, &Files::new(rt, self), waiters);
     }
 
     /// Ends the threads that help, and the one that follows.

@@ -184,7 +184,7 @@ where
         accounts: &opened.accounts,
         gate: &gate,
     };
-    let settle = Settling::new(rt, keeper);
+    let settle = Settling::new(rt, keeper, hub);
     let service = Service {
         row: &row,
         hub,
@@ -269,8 +269,8 @@ where
     } = others;
     let (board, bell) = (status.board, ends.bell);
     thread::scope(thread::scope_env(), rt, |scope| {
-        start_help(scope, rt, ends.guard);
-        let mut is_whole = start_status(scope, rt, hub, status);
+        let has_help = start_help(scope, rt, hub, ends.guard);
+        let mut is_whole = start_status(scope, rt, hub, status) && has_help;
         // With a standby that is never to lack anything, nobody is served before it has everything, peers neither.
         if let Some(sender) = ends.sender {
             board.set_waiting(sender.is_strict());

@@ -1,7 +1,7 @@
 //! The threads of a server that serve no connection: how each is started, and how all are ended.
 use crate::pad_gate::PadGate;
 use crate::sender::Sender;
-use crate::settling::tell_workers;
+use crate::settling::{WaitingWorkers, tell_workers};
 use crate::status::{StatusEnd, answer_status};
 use crate::status_thread::{StatusThread, end_status};
 use block_seq::BlockSeq;
@@ -14,19 +14,25 @@ use std::sync::Wait;
 use std::thread::{Scope, Threads};
 use std::time::Clock;
 
-/// Threads that help to sync the files of many pads. They wait for the disk, so there are more of them than processors.
+/// Threads that sync files while the workers serve. They wait for the disk, so there are more of them than processors.
 const SYNCERS: u32 = 12;
 
-/// Starts the threads that help to sync files, if there is a store. Where one does not start, syncs take longer.
-pub fn start_help<'s, E, R>(scope: &Scope<'s, E>, rt: &'s R, guard: Guard<'s>)
+/// Starts the threads that sync files, if there is a store. Returns true if at least one runs then: with fewer, syncs of
+/// many files take longer, and without one no worker would hear of the end of a sync.
+pub fn start_help<'s, E, R>(scope: &Scope<'s, E>, rt: &'s R, hub: &'s Hub, guard: Guard<'s>) -> bool
 where
     R: Wait + Threads + Sync,
 {
-    if let Some(keeper) = guard.keeper {
-        for _ in 0..SYNCERS {
-            let _helps = scope.spawn(move || keeper.help(rt));
-        }
+    let Some(keeper) = guard.keeper else {
+        return true;
+    };
+    let mut runs = false;
+    for _ in 0..SYNCERS {
+        runs |= scope
+            .spawn(move || keeper.help(rt, &WaitingWorkers { hub }))
+            .is_ok();
     }
+    runs
 }
 
 /// Starts the thread that answers for the status, if it has an address. Returns whether it runs then.
@@ -150,6 +156,10 @@ impl Ends<'_, '_> {
         self.bell.ring_last(rt);
         if hub.has_stopped() {
             self.guard.end(rt);
+        }
+        // What clients did that no longer read their replies is kept too.
+        if let Some(keeper) = self.guard.keeper {
+            let _synced = keeper.sync(rt);
         }
         self.exchange.finish(rt, threads, self.guard);
         match self.sender {

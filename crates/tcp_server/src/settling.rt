@@ -5,6 +5,7 @@ ghost use Rattle.group_commit.specs.Notes.{WasCounted};
 ghost use Rattle.store_files.specs.Settling.{IsSaidOf};
 
 use event_loop::{Hub, Reach, Settle};
+use group_commit::Waiters;
 use std::io;
 use std::sync::Wait;
 use std::time::Clock;
@@ -17,12 +18,13 @@ use web_wire::Machines;
 pub struct Settling<'a, R> {
     rt: &'a R,
     keeper: Option<&'a Keeper>,
+    hub: &'a Hub,
 }
 
 impl<'a, R> Settling<'a, R> {
-    /// Replies that wait for this keeper; None: they wait for nothing.
-    pub fn new(rt: &'a R, keeper: Option<&'a Keeper>) -> Settling<'a, R> {
-        Settling { rt, keeper }
+    /// Replies that wait for this keeper, of the workers of this hub; None: they wait for nothing.
+    pub fn new(rt: &'a R, keeper: Option<&'a Keeper>, hub: &'a Hub) -> Settling<'a, R> {
+        Settling { rt, keeper, hub }
     }
 }
 
@@ -33,7 +35,7 @@ impl<R: Wait + Clock> Settle for Settling<'_, R> {
 
     fn settle(&self) -> io::Result<u64> {
         match self.keeper {
-            Some(keeper) => keeper.sync(self.rt),
+            Some(keeper) => keeper.advance(self.rt, &WaitingWorkers { hub: self.hub }),
             None => Ok(0),
         }
     }
@@ -76,7 +78,19 @@ impl<R: Wait + Clock> Settle for Settling<'_, R> {
     }
 }
 
-/// Has workers look at the replies that wait whenever these may go further, until the server ends. If the standby is lost, it
+/// The workers of a hub whose replies wait for the store.
+#[derive(Clone, Copy)]
+pub struct WaitingWorkers<'a> {
+    pub hub: &'a Hub,
+}
+
+impl Waiters for WaitingWorkers<'_> {
+    fn wake(&self) {
+        self.hub.tell_reach();
+    }
+}
+
+/// Has workers look at the replies that wait whenever the standby has more, until the server ends. If the standby is lost, it
 /// stops the whole server.
 pub fn tell_workers<R: Wait + Clock>(rt: &R, keeper: &Keeper, hub: &Hub) {
     let mut seen = 0;

@@ -1,159 +1,24 @@
 //! Threads that note records and wait for them: the earlier notes of a thread are then in its file, and synced.
-ghost use Rattle.std.specs.Prelude.{◌≡◌, IfOk, None};
-
-use group_commit::{Commit, Commits, Committed, Device, Note, Notes, Uncommitted, append};
-use pad_model::Name;
-use std::alloc::{AllocError, Global};
-use std::io::{ErrorKind, Write};
-use std::sync::atomic::{AtomicBool, Ordering};
-use std::sync::{Mutex, Wait};
+use crate::memory_files::{CELLS, MemoryFiles, Thread, note_of};
+use group_commit::{Commits, Waiters};
+use std::alloc::Global;
+use std::sync::atomic::Ordering;
+use std::sync::{Condvar, Mutex, Wait};
 use std::test::Fail;
-use std::thread::Threads;
-use std::{io, thread};
-use store_format::PadWriter;
-use store_records::Record;
-
-// The number of files.
-const CELLS: u32 = 6;
+use std::thread;
+use std::time::{Clock, Duration};
 
 // The number of notes of each thread.
 const NOTES: u32 = 60;
 
+// The threads that help those that do not wait for rounds.
+const HELPERS: u32 = 2;
+
+// The seconds within which a round is told of.
+const PATIENCE: u64 = 60;
+
 // The notes' author, whom no line but those of the notes names.
 const AUTHORS: [&str; 4] = ["a1", "a2", "a3", "a4"];
-
-// A file in memory, or one whose disk fails.
-#[derive(Drop)]
-struct MemoryFile {
-    bytes: Vec<u8>,
-    synced: usize,
-    syncs: u64,
-    fails: bool,
-}
-
-impl Write for MemoryFile {
-    ghost contents = { λ _. None };
-
-    fn write(&mut self, bytes: &[u8]) -> io::Result<usize> {
-        self.bytes.write(bytes)
-    }
-
-    fn flush(&mut self) -> io::Result<()> {
-        Ok(())
-    }
-}
-
-impl Device for MemoryFile {
-    ghost synced = { λ _. None };
-
-    fn sync(&mut self) -> io::Result<()> {
-        if self.fails {
-            return Err(io::Error::from(ErrorKind::Other));
-        }
-        self.synced = self.bytes.len();
-        self.syncs = self.syncs.saturating_add(1);
-        Ok(())
-    }
-}
-
-// The files of some cells. At most one thread writes to each at a time, which is looked at.
-#[derive(Drop)]
-struct MemoryFiles {
-    alloc: Global,
-    files: Vec<Mutex<(PadWriter, MemoryFile)>>,
-    busy: Vec<AtomicBool>,
-    was_shared: AtomicBool,
-}
-
-impl MemoryFiles {
-    fn new(alloc: Global, fails: bool) -> Result<MemoryFiles, AllocError> {
-        let mut files = Vec::new(alloc);
-        let mut busy = Vec::new(alloc);
-        for _cell in 0..CELLS {
-            let file = MemoryFile {
-                bytes: Vec::new(alloc),
-                synced: 0,
-                syncs: 0,
-                fails,
-            };
-            files.push(Mutex::new((PadWriter::new(alloc, String::new(alloc)), file)))?;
-            busy.push(AtomicBool::new(false))?;
-        }
-        Ok(MemoryFiles {
-            alloc,
-            files,
-            busy,
-            was_shared: AtomicBool::new(false),
-        })
-    }
-
-    // The number of synced lines of a cell that name an author.
-    fn synced_of<R: Wait>(&self, rt: &R, cell: u32, author: &str) -> Result<usize, AllocError> {
-        let Some(file) = self.files.get(cell as usize) else {
-            return Ok(0);
-        };
-        let sought = format!(in self.alloc; "\"owner\":\"{author}\"")?;
-        let open = file.lock(rt);
-        let (_, file) = &*open;
-        let synced = &file.bytes[..file.synced.min(file.bytes.len())];
-        let mut found = 0usize;
-        for from in 0..synced.len() {
-            if synced[from..].starts_with(sought.as_bytes()) {
-                found = found.saturating_add(1);
-            }
-        }
-        Ok(found)
-    }
-
-    // The number of syncs of all files.
-    fn syncs<R: Wait>(&self, rt: &R) -> u64 {
-        let mut sum = 0u64;
-        for file in &self.files {
-            sum = sum.saturating_add(file.lock(rt).1.syncs);
-        }
-        sum
-    }
-}
-
-// The files, and a thread that appends to them.
-#[derive(Drop)]
-struct Thread<'r, 'f, R> {
-    rt: &'r R,
-    files: &'f MemoryFiles,
-}
-
-impl<R: Wait> Commit for Thread<'_, '_, R> {
-    fn commit(&self, notes: Notes) -> io::Result<Committed>
-        ensures { IfOk result (λ done. done.cell ≡ notes.cell) }
-    {
-        let cell = notes.cell() as usize;
-        let (Some(file), Some(busy)) = (self.files.files.get(cell), self.files.busy.get(cell))
-        else {
-            return Err(io::Error::from(ErrorKind::NotFound));
-        };
-        if busy.swap(true, Ordering::SeqCst) {
-            self.files.was_shared.store(true, Ordering::SeqCst);
-        }
-        let mut open = file.lock(self.rt);
-        let (writer, device) = &mut *open;
-        let done = append(self.files.alloc, writer, false, notes, device);
-        busy.store(false, Ordering::SeqCst);
-        match done {
-            Ok(done) => Ok(done),
-            Err(Uncommitted::Unwritten(cause) | Uncommitted::Unsynced(cause)) => Err(cause),
-        }
-    }
-}
-
-fn note_of(alloc: Global, author: &str) -> Result<Note, AllocError> {
-    let mut records = Vec::new(alloc);
-    records.push(Record::Named {
-        name: Name::from_str(alloc, "p")?,
-        owner: Name::from_str(alloc, author)?,
-        visits: true,
-    })?;
-    Ok(Note { at: 0, records })
-}
 
 // Notes once at one cell after the other, and after each note, that all notes of this author are synced. Returns the
 // number of notes that were not.
@@ -207,6 +72,144 @@ fn what_was_noted_is_synced(rt: HostRuntime) -> Result<(), Fail> {
     Ok(())
 }
 
+// Rung whenever a round has ended, for those that do not wait for it in `settle`.
+#[derive(Drop)]
+struct Bell<'r, R> {
+    rt: &'r R,
+    rings: Mutex<u64>,
+    rung: Condvar,
+}
+
+impl<R: Wait> Waiters for Bell<'_, R> {
+    fn wake(&self) {
+        let mut rings = self.rings.lock(self.rt);
+        *rings = rings.saturating_add(1);
+        drop(rings);
+        self.rung.notify_all();
+    }
+}
+
+impl<'r, R: Wait + Clock> Bell<'r, R> {
+    fn new(rt: &'r R) -> Bell<'r, R> {
+        Bell {
+            rt,
+            rings: Mutex::new(0),
+            rung: Condvar::new(),
+        }
+    }
+
+    // Waits until these first notes are on the disk. Returns false if nobody told of it in time.
+    fn wait(&self, commits: &Commits, number: u64) -> bool {
+        let most = Duration::from_secs(PATIENCE);
+        let rings = self.rings.lock(self.rt);
+        let (_rings, waited) = self.rung.wait_timeout_while(
+            self.rt,
+            rings,
+            most,
+            |_rings| !is_kept(self.rt, commits, number),
+        );
+        !waited.timed_out()
+    }
+}
+
+// Returns true if these first notes are on the disk.
+fn is_kept<R: Wait>(rt: &R, commits: &Commits, number: u64) -> bool {
+    match commits.look(rt, number) {
+        Some(kept) => kept.number() == number,
+        None => false,
+    }
+}
+
+// Notes at one cell after the other without waiting in a round of others, and after each note, that all notes of this
+// author are synced once it is told of that. Returns the number of notes that were not.
+fn advance_all<R: Wait + Clock>(
+    rt: &R,
+    alloc: Global,
+    commits: &Commits,
+    files: &MemoryFiles,
+    bell: &Bell<'_, R>,
+    author: &str,
+) -> Option<u32> {
+    let mut missing = 0u32;
+    let thread = Thread { rt, files };
+    for number in 0..NOTES {
+        let cell = number % CELLS;
+        let note = note_of(alloc, author).ok()?;
+        commits.note(rt, cell, note).ok()?;
+        let due = commits.advance(rt, &thread, bell).ok()?;
+        if !bell.wait(commits, due) {
+            return None;
+        }
+        let found = files.synced_of(rt, cell, author).ok()?;
+        if found != (number / CELLS + 1) as usize {
+            missing = missing.saturating_add(1);
+        }
+    }
+    Some(missing)
+}
+
+#[test]
+fn what_nobody_waits_for_in_a_round_is_synced_and_told(rt: HostRuntime) -> Result<(), Fail> {
+    let alloc = rt.alloc();
+    let commits = Commits::new(alloc, CELLS)?;
+    let files = MemoryFiles::new(alloc, false)?;
+    let bell = Bell::new(&rt);
+    let found = {
+        let (rt, commits, files, bell) = (&rt, &commits, &files, &bell);
+        thread::scope(thread::scope_env(), rt, |scope| {
+            for _ in 0..HELPERS {
+                let _helps = scope.spawn(move || {
+                    commits.help(rt, &Thread { rt, files }, bell);
+                });
+            }
+            let found = thread::map_indices(
+                rt,
+                alloc,
+                AUTHORS.len(),
+                &|author| { advance_all(rt, alloc, commits, files, bell, AUTHORS[author]) },
+            );
+            commits.end_help(rt);
+            found
+        })?
+    };
+    assert!(rt;
+        found.as_slice() == [Some(0); 4].as_slice(),
+        "{:?}",
+        found.as_slice()
+    );
+    assert!(rt;
+        !files.was_shared.load(Ordering::SeqCst),
+        "two threads wrote to one file at a time"
+    );
+    Ok(())
+}
+
+#[test]
+fn a_single_author_waits_for_no_thread_that_helps(rt: HostRuntime) -> Result<(), Fail> {
+    let alloc = rt.alloc();
+    let commits = Commits::new(alloc, CELLS)?;
+    let files = MemoryFiles::new(alloc, false)?;
+    let thread = Thread {
+        rt: &rt,
+        files: &files,
+    };
+    let bell = Bell::new(&rt);
+    let nothing = commits.advance(&rt, &thread, &bell)?;
+    assert!(rt; nothing == 0, "{nothing} notes of none");
+    for number in 1..=3u64 {
+        commits.note(&rt, 0, note_of(alloc, "a1")?)?;
+        let asked = commits.advance(&rt, &thread, &bell)?;
+        let rings = *bell.rings.lock(&rt);
+        assert!(rt; asked == number && rings == number, "{asked} and {rings}");
+        assert!(rt; is_kept(&rt, &commits, number), "note {number} waits");
+    }
+    let most = commits.look(&rt, 7).map(|kept| kept.number());
+    assert!(rt; most == Some(3), "{most:?} of the first 7 notes");
+    let fewer = commits.look(&rt, 2).map(|kept| kept.number());
+    assert!(rt; fewer == Some(2), "{fewer:?} of the first 2 notes");
+    Ok(())
+}
+
 #[test]
 fn notes_that_come_together_are_synced_together(rt: HostRuntime) -> Result<(), Fail> {
     let alloc = rt.alloc();
@@ -248,6 +251,12 @@ fn nothing_settles_after_a_failure(rt: HostRuntime) -> Result<(), Fail> {
         commits.settle(&rt, &thread).is_err() && commits.has_failed(),
         "later calls"
     );
+    let bell = Bell::new(&rt);
+    assert!(rt;
+        commits.advance(&rt, &thread, &bell).is_err(),
+        "one that only asks"
+    );
+    assert!(rt; commits.look(&rt, 0).is_none(), "one that looks");
     Ok(())
 }
 

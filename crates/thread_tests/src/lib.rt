@@ -15,6 +15,8 @@ mod held;
 #[cfg(test)]
 mod kept;
 #[cfg(test)]
+mod memory_files;
+#[cfg(test)]
 mod names;
 #[cfg(test)]
 mod pool;

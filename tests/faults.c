@@ -26,6 +26,7 @@ struct faults {
     atomic_long room; /* the bytes that files have room for, and one more; 0 sets no bound */
     atomic_long syncs_made;
     atomic_long large; /* the bytes of all blocks of at least LARGE bytes that are not freed */
+    atomic_long held; /* syncs wait until it is 0, and make it 2 if it is 1 */
 };
 
 #define LARGE (1 << 20)
@@ -213,8 +214,18 @@ static long length_of_pad(int file)
     return strcmp(path + length - 6, "/p.pad") == 0 ? state.st_size : 0;
 }
 
+static void wait_while_held(void)
+{
+    while (faults && atomic_load(&faults->held) != 0) {
+        long one = 1;
+        atomic_compare_exchange_strong(&faults->held, &one, 2);
+        usleep(1000);
+    }
+}
+
 static int sync_by(long call, int file)
 {
+    wait_while_held();
     if (faults && fails(&faults->syncs)) {
         errno = EIO;
         return -1;

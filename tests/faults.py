@@ -7,7 +7,7 @@ import subprocess
 
 from harness import ROOT, Failed
 
-FIELDS = ["allocations", "everywhere", "syncs", "writes", "failed", "synced", "error", "room", "syncs_made", "large"]
+FIELDS = ["allocations", "everywhere", "syncs", "writes", "failed", "synced", "error", "room", "syncs_made", "large", "held"]
 SIZE = 8 * len(FIELDS)
 
 

@@ -53,6 +53,8 @@ class Typist:
 def takes_over_while_an_author_types():
     machine = Machine(BUILD="BUILD", GO="GO")
     machine.said("builds the server without proofs")
+    time.sleep(1.5)
+    want([row[0] for row in notes()], ["try"], "what the toolchain is called for before somebody is served")
     touch("BUILD")
     machine.said(f"serve: NOT PROVED: the server on 127.0.0.1:{machine.port} is an unproved build")
     machine.said(READY)

@@ -74,13 +74,13 @@ fn what_was_noted_is_synced(rt: HostRuntime) -> Result<(), Fail> {
 
 // Rung whenever a round has ended, for those that do not wait for it in `settle`.
 #[derive(Drop)]
-struct Bell<'r, R> {
+struct RoundBell<'r, R> {
     rt: &'r R,
     rings: Mutex<u64>,
     rung: Condvar,
 }
 
-impl<R: Wait> Waiters for Bell<'_, R> {
+impl<R: Wait> Waiters for RoundBell<'_, R> {
     fn wake(&self) {
         let mut rings = self.rings.lock(self.rt);
         *rings = rings.saturating_add(1);
@@ -89,9 +89,9 @@ impl<R: Wait> Waiters for Bell<'_, R> {
     }
 }
 
-impl<'r, R: Wait + Clock> Bell<'r, R> {
-    fn new(rt: &'r R) -> Bell<'r, R> {
-        Bell {
+impl<'r, R: Wait + Clock> RoundBell<'r, R> {
+    fn new(rt: &'r R) -> RoundBell<'r, R> {
+        RoundBell {
             rt,
             rings: Mutex::new(0),
             rung: Condvar::new(),
@@ -127,7 +127,7 @@ fn advance_all<R: Wait + Clock>(
     alloc: Global,
     commits: &Commits,
     files: &MemoryFiles,
-    bell: &Bell<'_, R>,
+    bell: &RoundBell<'_, R>,
     author: &str,
 ) -> Option<u32> {
     let mut missing = 0u32;
@@ -153,7 +153,7 @@ fn what_nobody_waits_for_in_a_round_is_synced_and_told(rt: HostRuntime) -> Resul
     let alloc = rt.alloc();
     let commits = Commits::new(alloc, CELLS)?;
     let files = MemoryFiles::new(alloc, false)?;
-    let bell = Bell::new(&rt);
+    let bell = RoundBell::new(&rt);
     let found = {
         let (rt, commits, files, bell) = (&rt, &commits, &files, &bell);
         thread::scope(thread::scope_env(), rt, |scope| {
@@ -193,7 +193,7 @@ fn a_single_author_waits_for_no_thread_that_helps(rt: HostRuntime) -> Result<(),
         rt: &rt,
         files: &files,
     };
-    let bell = Bell::new(&rt);
+    let bell = RoundBell::new(&rt);
     let nothing = commits.advance(&rt, &thread, &bell)?;
     assert!(rt; nothing == 0, "{nothing} notes of none");
     for number in 1..=3u64 {
@@ -251,7 +251,7 @@ fn nothing_settles_after_a_failure(rt: HostRuntime) -> Result<(), Fail> {
         commits.settle(&rt, &thread).is_err() && commits.has_failed(),
         "later calls"
     );
-    let bell = Bell::new(&rt);
+    let bell = RoundBell::new(&rt);
     assert!(rt;
         commits.advance(&rt, &thread, &bell).is_err(),
         "one that only asks"

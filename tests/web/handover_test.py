@@ -11,6 +11,7 @@ import signal
 import sys
 import tempfile
 import threading
+import time
 
 HERE = os.path.dirname(os.path.realpath(__file__))
 sys.dont_write_bytecode = True
@@ -24,10 +25,11 @@ FEWEST = 40  # characters that each author types before the hand-over, and after
 
 
 class Typist:
-    """An author who types one character after the other in a window, in a line of the text that nobody else writes in."""
+    """An author who types one character after the other in a window, in a line of the text that nobody else writes in, and rests for
+    so many seconds after each."""
 
-    def __init__(self, window, letters):
-        self.window, self.letters, self.typed, self.is_over = window, letters, "", False
+    def __init__(self, window, letters, rest=0):
+        self.window, self.letters, self.rest, self.typed, self.is_over = window, letters, rest, "", False
         self.thread = threading.Thread(target=self.type)
         self.thread.start()
 
@@ -36,6 +38,7 @@ class Typist:
             letter = self.letters[len(self.typed) % len(self.letters)]
             self.window.keys(letter)
             self.typed += letter
+            time.sleep(self.rest)
 
     def end(self):
         self.is_over = True
@@ -59,13 +62,16 @@ def open_windows(machine):
     return windows
 
 
-def hand_over(machine, typists):
-    """Lets the proofs end while both type, and waits until both have typed on at the proved server."""
+def let_proofs_end(typists):
+    """Lets the proofs of the toolchain that is not a real one end when both have typed."""
     wait_until(lambda: all(len(it.typed) >= FEWEST for it in typists) and begun("pad_core"), "that both have typed")
-    before = len(machine.lines)
     touch("GO")
-    machine.said("serve: everything is proved: the proved server takes over", before)
-    machine.said(READY, before)
+
+
+def hand_over(machine, typists):
+    """Waits until both have typed on at the proved server."""
+    machine.said("serve: everything is proved: the proved server takes over")
+    wait_until(lambda: sum(READY in line for line in machine.lines) == 2, "that the proved server listens")
     typed = [len(it.typed) for it in typists]
     wait_until(lambda: all(len(it.typed) >= was + FEWEST for it, was in zip(typists, typed)), "that both have typed on")
 
@@ -98,15 +104,23 @@ def judge(play, prefix):
 
 
 def play(check):
-    machine, windows = Machine(BUILD="BUILD", GO="GO"), []
+    machine = Machine(BUILD="BUILD", GO="GO")
+    touch("BUILD")
+    play_with(check, machine, let_proofs_end)
+
+
+def play_with(check, machine, begin=lambda typists: None, rest=0):
+    """Plays at a machine whose script has been started. `begin` is done when both authors type."""
+    windows = []
     try:
-        touch("BUILD")
         machine.said(READY)
         windows = open_windows(machine)
         for window, name in zip(windows, ["ann", "bob"]):
             check(f"{name}'s window says that nothing is proved", until(lambda: "without proofs" in notice_of(window)), notice_of(window))
-        typists = [Typist(window, letters) for window, letters in zip(windows, ["0123456789", "abcdefghijklmnopqrstuvwxyz"])]
+        letters = ["0123456789", "abcdefghijklmnopqrstuvwxyz"]
+        typists = [Typist(window, its, rest) for window, its in zip(windows, letters)]
         try:
+            begin(typists)
             hand_over(machine, typists)
         finally:
             for typist in typists:

@@ -373,5 +373,5 @@ FUNCTIONS = [
 ]
 
 TESTS = [case.test() for case in CASES]
-TESTS += [Test(f"pad_server: crowds: {function.__name__.replace('_', ' ')}", function, 60) for function in FUNCTIONS]
-TESTS += [Test("pad_server: crowds: two thousand clients beside fifteen that type", two_thousand_clients_beside_fifteen_that_type, 120)]
+TESTS += [Test(f"pad_server: crowds: {function.__name__.replace('_', ' ')}", function, 60, alone=True) for function in FUNCTIONS]
+TESTS += [Test("pad_server: crowds: two thousand clients beside fifteen that type", two_thousand_clients_beside_fifteen_that_type, 120, alone=True)]

@@ -274,5 +274,5 @@ FUNCTIONS = [
 ]
 
 TESTS = [case.test() for case in CASES]
-TESTS += [Test(f"pad_server: door: {function.__name__.replace('_', ' ')}", function, 60) for function in FUNCTIONS]
-TESTS += [Test("pad_server: door: ten thousand unfinished lines take little memory", ten_thousand_unfinished_lines_take_little_memory, 120)]
+TESTS += [Test(f"pad_server: door: {function.__name__.replace('_', ' ')}", function, 60, alone=True) for function in FUNCTIONS]
+TESTS += [Test("pad_server: door: ten thousand unfinished lines take little memory", ten_thousand_unfinished_lines_take_little_memory, 120, alone=True)]

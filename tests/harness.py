@@ -4,6 +4,7 @@ A test is a function that takes no argument and raises `Failed` where something 
 process of its own, in an empty folder of its own, with a time limit of its own. When it has ended, or its time is over,
 every process that it started is killed.
 """
+import itertools
 import os
 import resource
 import shlex
@@ -19,6 +20,7 @@ from typing import Callable, Optional, Tuple, Union
 
 ROOT = os.path.dirname(os.path.dirname(os.path.realpath(__file__)))
 SECONDS = 20
+LONGEST = 20  # tests whose times are told at the end
 
 
 class Failed(Exception):
@@ -27,11 +29,13 @@ class Failed(Exception):
 
 @dataclass(frozen=True)
 class Test:
-    """One thing to try. `seconds` is how long it may take."""
+    """One thing to try. `seconds` is how long it may take; `alone` says that no other test may run meanwhile, since it measures
+    short times."""
 
     name: str
     function: Callable[[], None]
     seconds: float = SECONDS
+    alone: bool = False
 
 
 @dataclass(frozen=True)
@@ -185,24 +189,40 @@ def want(got, wanted, what):
 # ---- running
 
 
-def attempt(test):
-    """Runs a test in a process of its own, and returns what is wrong, or None. It always returns within the test's time."""
-    folder = tempfile.mkdtemp(prefix="pads-")
-    reader, writer = os.pipe()
-    child = os.fork()
-    if child == 0:
-        os.close(reader)
-        run_child(test, folder, writer)
-    os.close(writer)
-    try:
-        return wait_for(child, reader, time.monotonic() + test.seconds, test.seconds)
-    finally:
+class Run:
+    """A test that runs in a process and a folder of its own."""
+
+    def __init__(self, test, seconds):
+        self.test, self.folder, self.problem = test, tempfile.mkdtemp(prefix="pads-"), None
+        self.seconds, self.began = seconds, time.monotonic()
+        self.reader, writer = os.pipe()
+        self.child = os.fork()
+        if self.child == 0:
+            os.close(self.reader)
+            run_child(test, self.folder, writer)
+        os.close(writer)
+
+    def has_ended(self):
+        """Whether it has ended, or has no time left; `problem` then says what is wrong, if anything is."""
+        ended, status = os.waitpid(self.child, os.WNOHANG)
+        self.took = time.monotonic() - self.began
+        if not ended and self.took <= self.seconds:
+            return False
         try:
-            os.killpg(child, signal.SIGKILL)
+            os.killpg(self.child, signal.SIGKILL)
         except OSError:
-            pass
-        os.close(reader)
-        shutil.rmtree(folder, ignore_errors=True)
+            if not ended:
+                os.kill(self.child, signal.SIGKILL)
+        if ended:
+            word = os.read(self.reader, 65536)
+            if word != b"ok":
+                self.problem = word.decode(errors="replace") or f"its process ended with status {status}"
+        else:
+            os.waitpid(self.child, 0)
+            self.problem = f"it had not ended after {self.seconds} seconds"
+        os.close(self.reader)
+        shutil.rmtree(self.folder, ignore_errors=True)
+        return True
 
 
 def run_child(test, folder, writer):
@@ -225,39 +245,41 @@ def run_child(test, folder, writer):
         os._exit(0)
 
 
-def wait_for(child, reader, deadline, seconds):
-    while True:
-        ended, status = os.waitpid(child, os.WNOHANG)
-        if ended:
-            break
-        if time.monotonic() > deadline:
-            try:
-                os.killpg(child, signal.SIGKILL)
-            except OSError:
-                os.kill(child, signal.SIGKILL)
-            os.waitpid(child, 0)
-            return f"it had not ended after {seconds} seconds"
-        time.sleep(0.002)
-    word = os.read(reader, 65536)
-    if word == b"ok":
-        return None
-    return word.decode(errors="replace") or f"its process ended with status {status}"
+def run_side_by_side(tests, lanes):
+    """Runs so many tests at a time, and gives each when it has ended. Those that share the machine have twice their time."""
+    waiting, running = list(reversed(tests)), []
+    while waiting or running:
+        while waiting and len(running) < lanes:
+            test = waiting.pop()
+            running.append(Run(test, test.seconds * min(lanes, 2)))
+        ended = [run for run in running if run.has_ended()]
+        running = [run for run in running if run not in ended]
+        yield from ended
+        if not ended:
+            time.sleep(0.002)
 
 
-def run_all(tests):
-    """Runs the tests one after the other. The last line says how many passed and failed."""
+def run_all(tests, lanes=1):
+    """Runs so many tests at a time, those that may take long first, and then one by one those that are to be alone. Says which took
+    longest. The last line says how many passed and failed."""
     names = [test.name for test in tests]
     passed = failed = 0
     for name in sorted({name for name in names if names.count(name) > 1}):
         print(f"FAILED {name}: two tests have this name")
         failed += 1
-    for test in tests:
-        problem = attempt(test)
-        if problem is None:
+    together = sorted((test for test in tests if not test.alone), key=lambda test: -test.seconds)
+    alone = [test for test in tests if test.alone]
+    took = {}
+    for run in itertools.chain(run_side_by_side(together, lanes), run_side_by_side(alone, 1)):
+        took[run.test.name] = run.took
+        if run.problem is None:
             passed += 1
         else:
             failed += 1
-            print(f"FAILED {test.name}: {problem}")
+            print(f"FAILED {run.test.name}: {run.problem}")
         sys.stdout.flush()
+    if len(took) > LONGEST:
+        for name in sorted(took, key=took.get, reverse=True)[:LONGEST]:
+            print(f"{took[name]:5.0f} s  {name}")
     print(f"{passed} passed, {failed} failed")
     return 1 if failed or not passed else 0

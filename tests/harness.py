@@ -4,7 +4,6 @@ A test is a function that takes no argument and raises `Failed` where something 
 process of its own, in an empty folder of its own, with a time limit of its own. When it has ended, or its time is over,
 every process that it started is killed.
 """
-import itertools
 import os
 import resource
 import shlex
@@ -260,8 +259,9 @@ def run_side_by_side(tests, lanes):
 
 
 def run_all(tests, lanes=1):
-    """Runs so many tests at a time, those that may take long first, and then one by one those that are to be alone. Says which took
-    longest. The last line says how many passed and failed."""
+    """Runs so many tests at a time, those that may take long first, and then one by one those that are to be alone. One that fails
+    beside others is tried once more alone, and both are told: a busy machine can be too slow for it. Says which took longest. The
+    last line says how many passed and failed."""
     names = [test.name for test in tests]
     passed = failed = 0
     for name in sorted({name for name in names if names.count(name) > 1}):
@@ -270,14 +270,20 @@ def run_all(tests, lanes=1):
     together = sorted((test for test in tests if not test.alone), key=lambda test: -test.seconds)
     alone = [test for test in tests if test.alone]
     took = {}
-    for run in itertools.chain(run_side_by_side(together, lanes), run_side_by_side(alone, 1)):
+    for run in run_side_by_side(together, lanes):
+        took[run.test.name] = run.took
+        if run.problem is None:
+            passed += 1
+        else:
+            alone.append(run.test)
+            print(f"once more, alone: {run.test.name}: {run.problem}", flush=True)
+    for run in run_side_by_side(alone, 1):
         took[run.test.name] = run.took
         if run.problem is None:
             passed += 1
         else:
             failed += 1
-            print(f"FAILED {run.test.name}: {run.problem}")
-        sys.stdout.flush()
+            print(f"FAILED {run.test.name}: {run.problem}", flush=True)
     if len(took) > LONGEST:
         for name in sorted(took, key=took.get, reverse=True)[:LONGEST]:
             print(f"{took[name]:5.0f} s  {name}")

@@ -251,8 +251,8 @@ def servers_that_are_watched():
 
 
 TESTS = [
-    Test("etcd failover: a machine is lost", lambda: losses(LOSSES[:3]), 200),
-    Test("etcd failover: without a majority", without_a_majority, 60),
+    Test("etcd failover: a machine is lost", lambda: losses(LOSSES[:3]), 200, alone=True),
+    Test("etcd failover: without a majority", without_a_majority, 60, alone=True),
     Test("etcd failover: a key that is not free", a_key_that_is_not_free, 60),
     Test("etcd failover: servers that are watched", servers_that_are_watched, 60),
 ]

@@ -171,8 +171,8 @@ def the_server_ends_while_it_connects():
 TESTS = [
     Test("open files: a creation without one is refused", a_creation_without_a_file_is_refused, 60),
     Test("open files: refused creations use up none", refused_creations_use_up_no_file),
-    Test("open files: a failed store ends the server whatever waits", the_server_ends_whatever_waits, 90),
-    Test("open files: a failed store ends a server whose clients wait for changes", the_server_ends_while_clients_wait_for_changes, 90),
-    Test("open files: a failed store ends a server that has none left", the_server_ends_without_open_files, 90),
-    Test("open files: a failed store ends a server that connects to a peer", the_server_ends_while_it_connects, 90),
+    Test("open files: a failed store ends the server whatever waits", the_server_ends_whatever_waits, 90, alone=True),
+    Test("open files: a failed store ends a server whose clients wait for changes", the_server_ends_while_clients_wait_for_changes, 90, alone=True),
+    Test("open files: a failed store ends a server that has none left", the_server_ends_without_open_files, 90, alone=True),
+    Test("open files: a failed store ends a server that connects to a peer", the_server_ends_while_it_connects, 90, alone=True),
 ]

@@ -118,8 +118,8 @@ def a_large_pad_in_a_browser():
     script(PYTHON, "large_pad.py", path_of("pad_server"))
 
 
-def named(function, seconds, name=None):
-    return Test(f"web: {name or function.__name__.replace('_', ' ')}", function, seconds)
+def named(function, seconds, name=None, alone=False):
+    return Test(f"web: {name or function.__name__.replace('_', ' ')}", function, seconds, alone)
 
 
 TESTS = [
@@ -139,7 +139,7 @@ TESTS = [
     named(forty_pages_type_beside_a_peer, 180),
     named(two_windows_of_a_browser, 1_200),
     named(two_windows_of_firefox, 200),
-    named(a_browser_is_killed_while_its_author_types, 300),
+    named(a_browser_is_killed_while_its_author_types, 300, alone=True),
 ]
 
 # These take minutes: tests/run --long.

@@ -280,6 +280,6 @@ FUNCTIONS = [
 LONG_ONES = [a_request_that_drips_ends_in_its_time, a_socket_of_nobody_is_closed_after_a_minute]
 
 TESTS, LONG_TESTS = (
-    [Test(f"pad_server: web visits: {function.__name__.replace('_', ' ')}", function, 120) for function in functions]
+    [Test(f"pad_server: web visits: {function.__name__.replace('_', ' ')}", function, 120, alone=True) for function in functions]
     for functions in (FUNCTIONS, LONG_ONES)
 )

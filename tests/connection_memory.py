@@ -140,8 +140,8 @@ def the_room_of_a_long_line_is_given_back():
 
 
 TESTS = [
-    Test("memory: a connection that finds none ends alone", a_connection_without_memory_ends_alone, 60),
-    Test("memory: a long line that finds none", a_long_line_without_memory_is_told, 60),
-    Test("memory: who moves to the worker for long lines leaves its pads", who_moves_without_memory_leaves_its_pads, 60),
-    Test("memory: the room of a long line is given back", the_room_of_a_long_line_is_given_back, 60),
+    Test("memory: a connection that finds none ends alone", a_connection_without_memory_ends_alone, 60, alone=True),
+    Test("memory: a long line that finds none", a_long_line_without_memory_is_told, 60, alone=True),
+    Test("memory: who moves to the worker for long lines leaves its pads", who_moves_without_memory_leaves_its_pads, 60, alone=True),
+    Test("memory: the room of a long line is given back", the_room_of_a_long_line_is_given_back, 60, alone=True),
 ]

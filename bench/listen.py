@@ -46,13 +46,13 @@ def serve(accounts, kind, writers, pads, requests, size):
 
 
 def print_row(name, writers, pads, row, size=5_000):
-    print(f"{name:<12}{writers:>8}{pads:>6}{size:>9}{row[0]:>12.0f}{row[1]:>10.1f}{row[2]:>10.1f}{row[3]:>11.1f}", flush=True)
+    print(f"{name:<14}{writers:>8}{pads:>6}{size:>9}{row[0]:>12.0f}{row[1]:>10.1f}{row[2]:>10.1f}{row[3]:>11.1f}", flush=True)
 
 
 def measure(flags, requests):
     build(flags)
     print(f"load {os.getloadavg()[0]:.1f} on {os.cpu_count()} processors, {requests} requests of each writer")
-    print(f"{'':<12}{'writers':>8}{'pads':>6}{'size':>9}{'replies/s':>12}{'p50 us':>10}{'p99 us':>10}{'p99.9 us':>11}")
+    print(f"{'':<14}{'writers':>8}{'pads':>6}{'size':>9}{'replies/s':>12}{'p50 us':>10}{'p99 us':>10}{'p99.9 us':>11}")
     with tempfile.NamedTemporaryFile("w", suffix=".accounts") as accounts:
         accounts.write("author owner t\n" + "".join(f"author w{writer} t\n" for writer in range(500)))
         accounts.flush()
@@ -62,4 +62,4 @@ def measure(flags, requests):
             print_row("refused", writers, pads, bare, size)
             print_row("pads", writers, pads, ours, size)
             aims = f", aims {RATE_AIM:.2f} and a p99 below {P99_AIM} us" if (writers, pads) == (15, 1) else ""
-            print(f"{'ratio':<12}{'':>8}{'':>6}{'':>9}{ours[0] / bare[0]:>12.3f}{aims}", flush=True)
+            print(f"{'ratio':<14}{'':>8}{'':>6}{'':>9}{ours[0] / bare[0]:>12.3f}{aims}", flush=True)

@@ -54,7 +54,7 @@ def serve(name, confirm, writers, requests):
 def measure(flags, requests):
     build_listen(flags)
     print(f"load {os.getloadavg()[0]:.1f} on {os.cpu_count()} processors, {requests} requests of each writer, both stores on one disk")
-    print(f"{'':<12}{'writers':>8}{'pads':>6}{'size':>9}{'replies/s':>12}{'p50 us':>10}{'p99 us':>10}{'p99.9 us':>11}")
+    print(f"{'':<14}{'writers':>8}{'pads':>6}{'size':>9}{'replies/s':>12}{'p50 us':>10}{'p99 us':>10}{'p99.9 us':>11}")
     found = {}
     with tempfile.TemporaryDirectory(dir=OUT) as folder:
         os.chdir(folder)

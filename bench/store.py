@@ -36,7 +36,7 @@ def serve(accounts, folder, writers, requests, variables, program=SERVER, pads=1
 
 
 def compare(before, requests, variables):
-    """Drives both programs in turn, and prints the medians of each and their ratio."""
+    """Drives both programs in turn, and prints each turn, the medians of each program and their ratio."""
     programs = {"before": before, "now": SERVER} if before else {"now": SERVER}
     for writers, pads, size, aim in CASES:
         each = max(1, requests * min(writers, 15) // writers)
@@ -45,10 +45,11 @@ def compare(before, requests, variables):
             for name, program in programs.items():
                 folder = f"{name}-{writers}-{turn}"
                 taken[name].append(serve("accounts", folder, writers, each, variables, program, pads, size))
+                print_row(f"{name} {turn + 1}", writers, pads, taken[name][-1], size)
                 shutil.rmtree(folder)
         rows = {name: [statistics.median(column) for column in zip(*rounds)] for name, rounds in taken.items()}
         for name, row in rows.items():
-            print_row(name, writers, pads, row, size)
+            print_row(f"{name} median", writers, pads, row, size)
         if before:
             print(f"replies a second now over before {rows['now'][0] / rows['before'][0]:.2f}, aims {aim}")
 
@@ -81,7 +82,7 @@ def measure(flags, requests, before, sync):
     variables = disk_of(sync)
     subprocess.run(["rustc", *flags, "-o", SYNCED, TOP / "bench" / "drive" / "synced.rs"], check=True)
     print(f"load {os.getloadavg()[0]:.1f} on {os.cpu_count()} processors, {requests} requests of each writer")
-    print(f"{'':<12}{'writers':>8}{'pads':>6}{'size':>9}{'replies/s':>12}{'p50 us':>10}{'p99 us':>10}{'p99.9 us':>11}")
+    print(f"{'':<14}{'writers':>8}{'pads':>6}{'size':>9}{'replies/s':>12}{'p50 us':>10}{'p99 us':>10}{'p99.9 us':>11}")
     with tempfile.TemporaryDirectory(dir=OUT) as folder:
         os.chdir(folder)
         Path("accounts").write_text("author owner t\n" + "".join(f"author w{writer} t\n" for writer in range(500)))

@@ -10,7 +10,7 @@ USAGE = """Usage: pad_server --stdin --replica <N> [--accounts <PATH>] [--cells 
        pad_server --listen <ADDR> --replica <N> --accounts <PATH> [OPTIONS]
 """
 PRESENT_HELP = "How many visits may be present on a pad at once, 1 to 1,024 [default: 64]"
-OPTIONS = Has(USAGE, "--present <N>", PRESENT_HELP, "--workers <N>", "--clients <N>", "--idle <SECONDS>", "--store <DIR>", "--new-replica", "--help")
+OPTIONS = Has(USAGE, "--present <N>", PRESENT_HELP, "--workers <N>", "--clients <N>", "--idle <SECONDS>", "--store <DIR>", "--new-replica", "--guests", "--help")
 
 
 def refused(name, args, *parts):
@@ -54,6 +54,11 @@ CASES = [
     refused("--store with --stdin", "--stdin --replica 1 --store s", "--store <DIR> needs --listen <ADDR>\n"),
     refused("--idle with --stdin", "--stdin --replica 1 --idle 5", "--idle <SECONDS> needs --listen <ADDR>\n"),
     refused("--new-replica with --stdin", "--stdin --replica 1 --new-replica", "--new-replica needs --listen <ADDR>\n"),
+    refused("--guests with --stdin", "--stdin --replica 1 --guests", "--guests needs --listen <ADDR>\n"),
+    refused("--guests with --stdin and accounts", "--stdin --replica 1 --accounts a --guests", "--guests needs --listen <ADDR>\n"),
+    refused("--guests without accounts", "--listen 127.0.0.1:0 --replica 1 --guests", "--listen <ADDR> needs --accounts <PATH>\n"),
+    refused("--guests with a value", "--listen 127.0.0.1:0 --replica 1 --accounts a --guests=yes", "--guests"),
+    refused("--guests twice", "--listen 127.0.0.1:0 --replica 1 --accounts a --guests --guests", "--guests"),
     refused("--store and --idle with --stdin", "--stdin --replica 1 --idle 5 --store s", "--store <DIR> needs --listen <ADDR>\n"),
     refused("--idle with neither", "--replica 1 --idle 5", "either --stdin or --listen <ADDR> is needed"),
     refused("an unknown option", "--stdin --replica 1 --colour", "--colour"),

@@ -5,7 +5,7 @@ import subprocess
 
 from harness import ROOT, Test, put_files, want
 
-SCRIPTS = [".ci/run", ".ci/long", ".ci/edits"]
+SCRIPTS = [".ci/run", ".ci/long", ".ci/edits", ".ci/lanes"]
 UNPROVED = ["pad_part_tests", "sequence_tests", "server_tests", "relay_tests", "thread_tests", "client_tests", "standby_tests"]
 
 # In place of the toolchain: notes which crates and edits it finds, leaves a program, and says what the file SAYS holds.
@@ -15,6 +15,7 @@ version) cat "$ROOM/kit" ;;
 ci)
     ls crates >"$ROOM/crates"
     cp crates.txt "$ROOM/listed"
+    echo "$RT_JOBS" >"$ROOM/lanes"
     (cd crates && ls -d */must-fail/*.edit) >"$ROOM/edits"
     mkdir -p crates/pad_server/out
     echo "of $(cat crates/pad_server/src/main.rt)" >crates/pad_server/out/pad_server
@@ -126,6 +127,27 @@ def the_rest_is_proved_in_a_clone():
     told = "full check: not committed, so not proved: 1 files, such as crates/pad_server/src/main.rt"
     want(done.stdout.splitlines()[-2], told, "the line before the last")
     want([name for name in os.listdir("top/.git") if name.startswith("full-check")], [], "what is left of the clone")
+
+
+def the_minute_of_each_proof_is_told():
+    repository(says="rt: low proved\nrt: apart NOT PROVED\nrt: high proved\n7 passed, 0 failed\n")
+    said = run(".ci/run").stdout.splitlines()
+    wanted = ["full check: tests/quick ended in minute 0", "full check: rt ci ended in minute 0"]
+    want([line for line in said if " ended in minute " in line], wanted, "when the parts ended")
+    told = "full check: crates, and the minute in which each was proved: low 0,high 0"
+    want([line for line in said if "each was proved" in line], [told], "when the crates were proved")
+
+
+def as_many_crates_are_proved_at_a_time_as_fit():
+    """One on a machine that is told to have little memory, and otherwise no more than it has processors."""
+    repository()
+    for kilobytes, lanes in [(1_000_000, 1), (15_000_000, min(2, os.cpu_count())), (900_000_000, os.cpu_count())]:
+        write("bin/awk", f"#!/bin/bash\necho {kilobytes}\n")
+        write("bin/nproc", f"#!/bin/bash\necho {os.cpu_count()}\n")
+        for name in ["awk", "nproc"]:
+            os.chmod(f"bin/{name}", 0o755)
+        run(".ci/run")
+        want(read("lanes"), f"{lanes}\n", f"how many crates are proved at a time with {kilobytes} kB")
 
 
 def a_program_that_was_not_built_is_not_played():
@@ -262,6 +284,8 @@ TESTS = [
     Test("full check: the parts are counted together", all_parts_count, 60),
     Test("full check: what fails before the parts counts", what_fails_before_the_parts_counts),
     Test("full check: the rest is proved in a clone", the_rest_is_proved_in_a_clone),
+    Test("full check: the minute of each proof is told", the_minute_of_each_proof_is_told),
+    Test("full check: as many crates are proved at a time as fit", as_many_crates_are_proved_at_a_time_as_fit),
     Test("full check: a program that was not built is not played", a_program_that_was_not_built_is_not_played),
     Test("full check: edits are left out after the long run", edits_are_left_out_after_the_long_run),
     Test("full check: what has changed brings edits back", what_has_changed_brings_edits_back, 60),

@@ -28,6 +28,8 @@ ROWS = [
     ("operations on a pad in all", "pad_model/src/limits.rt", "MAX_OPERATIONS"),
     ("comments on a pad", "pad_model/src/limits.rt", "MAX_COMMENTS"),
     ("named revisions of a pad", "named_revisions/src/list.rt", "MAX_NAMED_REVISIONS"),
+    ("guests of a pad with a display name", "guests/src/book.rt", "MAX_GUESTS"),
+    ("characters in a guest's display name", "guests/src/book.rt", "MAX_GUEST_DISPLAY"),
     ("characters in a pad", "pad_model/src/limits.rt", "MAX_CHARACTERS"),
     ("characters in one insertion, deletion or edit", "pad_model/src/limits.rt", "MAX_TEXT"),
     ("changes in one edit", "pad_model/src/limits.rt", "MAX_PARTS"),

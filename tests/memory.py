@@ -17,8 +17,11 @@ ACCOUNTS = (("accounts", "author ann tann\nauthor bob tbob\nauthor eve teve\npee
 LISTEN = "--listen 127.0.0.1:0 --replica 1 --accounts accounts"
 OPERATION = {"author": "cyd", "seen": []}
 
+# The secret of a link, which its guest ben has as his own too, and his name.
+LINK, BEN = "k3Zt0Qm8vJx2bN5wYcR7Ag", "guest-duu243qz3z64xxgszig5ffn35m"
+
 # What a request is answered that was done, where the reply of the first time found no memory.
-DONE = {"hello": 202, "peer": 202, "create": 301, "join": 311, "leave": 310}
+DONE = {"hello": 202, "guest": 202, "peer": 202, "create": 301, "join": 311, "leave": 310}
 
 # What wakes the relay behind its reply. The wake-up may find no memory: then the next round comes when it is due.
 WAKES = {"insert", "delete", "edit", "comment", "resolve", "push"}
@@ -27,10 +30,10 @@ WAKES = {"insert", "delete", "edit", "comment", "resolve", "push"}
 LEARNS = {"create"}
 
 # Who a log-in is for is read beforehand, to be noted if its token is wrong. That can do without memory too.
-NOTED = {"hello", "peer"}
+NOTED = {"hello", "guest", "peer"}
 
 # What has a text. Where the room that is made for all of it is refused, it grows as it is read.
-TEXTS = {"mark"}
+TEXTS = {"mark", "introduce"}
 
 # What may have a long reply, whose room is given back once it is written. It may also stay: nobody is told of that.
 LONG_REPLIES = {"text", "runs", "comments", "entries", "pull"}
@@ -108,7 +111,7 @@ class Reader:
         self.author.join("p")
 
     def __call__(self):
-        shown = [self.author.does(do=act, pad="p") for act in ("text", "runs", "comments", "revs", "rights", "marks", "who")]
+        shown = [self.author.does(do=act, pad="p") for act in ("text", "runs", "comments", "revs", "rights", "marks", "guests", "who")]
         made = self.author.does(do="entries", pad="p", count=100, **{"from": max(1, shown[0]["now"] - 50)})
         return shown, made, self.peer.does(do="vector", pad="p")
 
@@ -118,7 +121,7 @@ class Story:
 
     def __init__(self, server):
         self.server = server
-        self.clients = {name: server.served() for name in ("ann", "bob", "two")}
+        self.clients = {name: server.served() for name in ("ann", "bob", "two", "ben")}
         self.read = lambda: None
         self.text = ""
         self.now = 0
@@ -217,8 +220,17 @@ def receive(story):
     want(story.on_pad("bob", "text")["text"], story.text, "the text with the peer's letters")
 
 
+def welcome(story):
+    """A guest comes by a link and says its name."""
+    story.on_pad("ann", "invite", secret=LINK, right="read")
+    story.does("ben", do="guest", token=f"{LINK}.{LINK}")
+    story.on_pad("ben", "join")
+    story.on_pad("ben", "introduce", **{"as": "Ben Müller"})
+    want(story.on_pad("ann", "guests")["guests"], [{"author": BEN, "name": "Ben Müller"}], "the guests")
+
+
 def read_all(story):
-    for act in ("text", "runs", "comments", "revs", "rights", "marks", "who"):
+    for act in ("text", "runs", "comments", "revs", "rights", "marks", "guests", "who"):
         story.on_pad("ann", act)
     for act in ("text", "runs", "comments"):
         story.on_pad("ann", act, rev=3)
@@ -231,7 +243,7 @@ def read_all(story):
 
 
 def allocations_of_each_request_are_refused():
-    server = Server("--workers 6")
+    server = Server("--workers 6 --guests")
     story = Story(server)
     begin(story)
     write(story)
@@ -242,6 +254,7 @@ def allocations_of_each_request_are_refused():
     named = [(one["author"], one["rev"], one["text"]) for one in story.on_pad("ann", "marks")["marks"]]
     want(named, [("bob", 1, "A first draft")] * given, "the names of revisions")
     story.on_pad("bob", "caret", rev=story.now, at=3)
+    welcome(story)
     receive(story)
     read_all(story)
     story.on_pad("bob", "leave")

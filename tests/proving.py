@@ -28,11 +28,11 @@ def a_killed_run_loses_nothing():
 
 
 def crates_that_share_one_are_proved_at_the_same_time():
-    """rights and text_history both stand on pad_model, which a proof of either locks; each waits here until the other has begun."""
+    """comments and text_history both stand on pad_model, which a proof of either locks; each waits here until the other has begun."""
     below = crates_below()
-    want(all("pad_model" in below[name] for name in ["rights", "text_history"]), True, "that both stand on pad_model")
-    variables = make_machine(TOGETHER="rights text_history")
-    done = subprocess.run(["./prove", "--jobs", "2", "rights", "text_history"], env=variables, capture_output=True, text=True)
+    want(all("pad_model" in below[name] for name in ["comments", "text_history"]), True, "that both stand on pad_model")
+    variables = make_machine(TOGETHER="comments text_history")
+    done = subprocess.run(["./prove", "--jobs", "2", "comments", "text_history"], env=variables, capture_output=True, text=True)
     want((done.returncode, done.stderr.splitlines()[-1]), (0, "prove: all 3 crates are proved"), "the status and the last line")
     nothing_is_left()
 
@@ -99,6 +99,17 @@ def minutes_rise_where_it_is_slower():
         want(abs(now + minutes - total) <= 0.15 * total, True, f"that {minutes} remain after {now} of {total} minutes")
 
 
+def a_lone_proof_takes_all_processors():
+    """Of four processors each proof takes twice its share, and fewer where the memory is short."""
+    prove = script()
+    os.sched_getaffinity = lambda _: range(4)
+    for proved, free, jobs in [("none", 20_000_000, 2), ("all", 20_000_000, 4), ("all", 6_500_000, 3), ("all", 3_000_000, 1)]:
+        prove.free_memory = lambda free=free: free
+        proofs = prove.Proofs(["pad_server"], 4)
+        proofs.took = {name: 1 for name in proofs.order if proved == "all" and name != "pad_server"}
+        want(proofs.jobs(), jobs, f"the processes of a proof where {proved} of the others are proved, with {free} kB")
+
+
 def words_are_refused():
     for words, status, part in [
         (["nothing"], 1, "prove: crates.txt has no crate nothing"),
@@ -122,5 +133,6 @@ TESTS = [
     Test("prove: a killed run loses nothing", ends_machines(a_killed_run_loses_nothing), 100),
     Test("prove: the minutes that remain count down", minutes_count_down),
     Test("prove: they rise where proofs take longer", minutes_rise_where_it_is_slower),
+    Test("prove: a lone proof takes all processors", a_lone_proof_takes_all_processors),
     Test("prove: wrong words", words_are_refused),
 ]

@@ -14,7 +14,6 @@ import { $, element, gather, later, say } from "./page.js";
 import { Past } from "./past.js";
 import { Phone } from "./phone.js";
 import { Remarks } from "./remarks.js";
-import { RightsBox } from "./rights.js";
 import { StateLine } from "./state_line.js";
 import { Steps } from "./steps.js";
 import { timeOf } from "./times.js";
@@ -61,7 +60,8 @@ export class Desk {
     this.notice = new Notice(session.kept, {
       onGoOn: () => this.loadGoOn().then((box) => box.open(), () => this.notice.show(WORDS.noServer)), onClose: () => this.close(true), onLogOut, onForget: () => session.drafts.dropRefused(),
     });
-    this.rights = new RightsBox(session, (text) => say($("news"), text));
+    this.rights = null;
+    this.loadRights = later(async () => { this.rights = new (await import("./rights.js")).RightsBox(session, (text) => say($("news"), text)); });
     this.steps = new Steps(this);
     this.format = new FormatBar(this.editor);
     this.find = new FindBar({
@@ -85,6 +85,7 @@ export class Desk {
     for (const id of ["undo", "redo", "comment", "suggest", "who-wrote", "menu-who-wrote"]) on(id, (event) => event.preventDefault(), "mousedown");
     for (const id of ["who-wrote", "menu-who-wrote"]) on(id, () => this.askWho());
     $("paper").addEventListener("pointerover", (event) => this.loadWho().then(() => this.who.pointed(event), () => {}), { once: true });
+    on("rights", () => this.loadRights().then(() => this.rights.open(), () => this.notice.show(WORDS.noServer)));
     on("close", () => this.close());
     addEventListener("keydown", (event) => this.keyDown(event));
     addEventListener("beforeunload", (event) => {
@@ -228,9 +229,10 @@ export class Desk {
     this.steps.show();
   }
 
-  // Who is not logged in can log in, and who is can log out.
+  // Who is not logged in can log in, and who is can log out. A guest has no list of pads to go back to.
   showWho() {
-    const { isAway } = this.session;
+    const { isAway, isGuest } = this.session;
+    $("close").hidden = isGuest;
     $("log-in-again").hidden = !isAway;
     $("log-out").hidden = $("menu-log-out").hidden = isAway || this.session.isUser;
   }
@@ -245,7 +247,7 @@ export class Desk {
     this.giveColours();
     this.showEditable();
     this.past.describe();
-    this.rights.draw();
+    this.rights?.draw();
     this.remarks.draw();
     this.showState();
   }
@@ -298,7 +300,9 @@ export class Desk {
   }
 
   showPeople() {
-    const { me, presence } = this.session;
+    const { me, presence } = this.session, visits = presence.people.map(({ visit }) => visit).join();
+    if (visits !== this.visits) this.displays.forgetGuests();
+    this.visits = visits;
     this.giveColours();
     this.askNames();
     const authors = [...new Set(presence.people.map(({ author }) => author))];
@@ -313,7 +317,12 @@ export class Desk {
     this.place();
   }
 
-  came(author) { say($("news"), WORDS.came(named(author))); }
+  async came(author) {
+    this.displays.forgetGuests();
+    await this.displays.ask([author]);
+    say($("news"), WORDS.came(named(author)));
+  }
+
   went(author) { say($("news"), WORDS.went(named(author))); }
 
   // The session cannot go on. What was typed and not sent is shown, to be copied.

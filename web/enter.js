@@ -7,7 +7,7 @@ import { Lost, Superseded, Unsaved } from "../clients/js/src/errors.js";
 import { begin, offerTemplates, templateText } from "./templates.js";
 import { WORDS, refusal } from "./words.js";
 
-const DENIED = 312;
+const NO_PAD = 300, DENIED = 312;
 
 // What an error means, in words.
 export function reason(error) {
@@ -22,7 +22,7 @@ export class Enter {
   // `onPad` is called once a pad is open, with what was found in it, and `onLeave` closes it. `onRefused` gets the name of a pad that is not opened though
   // something of it was not sent.
   constructor(session, kept, { displays, onPad, onLeave, onRefused }) {
-    Object.assign(this, { session, kept, displays, onPad, onLeave, onRefused, wasLost: false, search: null });
+    Object.assign(this, { session, kept, displays, onPad, onLeave, onRefused, wasLost: false, search: null, door: null });
     this.list = new PadList(session, displays, (name) => this.enter("join", name));
     // What searches in all texts is loaded with the first search.
     this.loadSearch = later(async () => {
@@ -39,10 +39,12 @@ export class Enter {
     addEventListener("hashchange", () => this.follow());
   }
 
-  // The list of pads.
+  // The list of pads. A guest has a way to the pad of the link alone (guest_door.js).
   async show() {
-    if (!this.session.login) { location.reload(); return; } // a pad was opened without a log-in
-    for (const id of ["log-in", "kept", "work", "tools", "tools-button", "here", "pad-name", "log-in-again"]) $(id).hidden = true;
+    const { login, isGuest } = this.session;
+    if (!login || (isGuest && !this.door)) { location.reload(); return; } // a pad was opened without a log-in
+    if (this.isAtDoor) { this.door.show(); return; }
+    for (const id of ["log-in", "guest", "kept", "work", "tools", "tools-button", "here", "pad-name", "log-in-again"]) $(id).hidden = true;
     for (const id of ["enter", "choose"]) $(id).hidden = false;
     for (const id of ["log-out", "menu-log-out"]) $(id).hidden = this.session.isUser; // the proxy logs out whom it has logged in
     document.title = WORDS.unnamed;
@@ -52,6 +54,8 @@ export class Enter {
     await this.read();
     $("pad").focus();
   }
+
+  get isAtDoor() { return this.door !== null && this.session.isGuest; }
 
   // Reads the list of pads. If it cannot be read, nothing is said of it but that.
   async read() {
@@ -71,7 +75,7 @@ export class Enter {
 
   // Authors have other display names than those that are drawn.
   renamed() {
-    if ($("enter").hidden || !this.session.login || this.session.isLost) return;
+    if ($("enter").hidden || !this.session.login || this.session.isLost || this.isAtDoor) return;
     say($("state"), WORDS.loggedIn(named(this.session.me)));
     this.list.renamed();
   }
@@ -80,7 +84,7 @@ export class Enter {
   showState() {
     const { isLost, login } = this.session, isOther = isLost !== this.wasLost;
     this.wasLost = isLost;
-    if (isOther && login && !$("enter").hidden) this.read();
+    if (isOther && login && !$("enter").hidden && !this.isAtDoor) this.read();
   }
 
   // The pad that the address names, if it names one.
@@ -115,9 +119,13 @@ export class Enter {
     say($("open-error"), "");
     this.list.stop();
     if (this.session.pad && !this.session.entering && !(await this.onLeave())) return;
-    try { await this.session[how](name); } catch (error) {
+    try {
+      await this.session[how](name);
+      if (this.isAtDoor) await this.door.introduce();
+    } catch (error) {
       if (error instanceof Superseded) return;
-      say($("open-error"), error.reply?.code === DENIED ? WORDS.noRight : reason(error));
+      const code = error.reply?.code, text = code === DENIED || (code === NO_PAD && this.isAtDoor) ? WORDS.noRight : reason(error);
+      if (this.isAtDoor) this.door.show(text); else say($("open-error"), text);
       if (error.reply) this.onRefused(name);
       return;
     }

@@ -1,5 +1,5 @@
 // A revision as a file: its text alone, or Markdown with authors and comments.
-import { displayOf } from "./authors.js";
+import { displayOf, fullName } from "./authors.js";
 import { WORDS } from "./words.js";
 
 const safe = (text) => text.replaceAll("&", "&amp;").replaceAll("<", "&lt;");
@@ -7,11 +7,13 @@ const safe = (text) => text.replaceAll("&", "&amp;").replaceAll("<", "&lt;");
 // A display name is text, whatever signs of Markdown are in it.
 const plain = (name) => safe(name).replace(/[\\`*_[\]~^|]/g, "\\$&");
 
+const fully = (author) => (displayOf(author) ? plain(fullName(author, author)) : author);
+
 // A name for each author: the display name, or the other one without the server's number, unless two authors have the same.
 function namesOf(authors) {
   const bare = (author) => displayOf(author) ?? author.split("@")[0], all = [...new Set(authors)];
   const isShared = (author) => all.some((other) => other !== author && bare(other) === bare(author));
-  return new Map(all.map((author) => [author, !isShared(author) ? plain(bare(author)) : displayOf(author) ? `${plain(bare(author))} (${author})` : author]));
+  return new Map(all.map((author) => [author, !isShared(author) ? plain(bare(author)) : fully(author)]));
 }
 
 const oneLine = (text) => safe(text).replace(/\s+/g, " ").trim();
@@ -44,7 +46,6 @@ export function toMarkdown({ name, rev, text, runs, comments }) {
     const state = isResolved ? ` (${WORDS.resolved.toLowerCase()})` : "";
     return `[^${k + 1}]: **${names.get(author)}**${state}: ${quote}${oneLine(words)}`;
   });
-  const fully = (author) => (displayOf(author) ? `${plain(displayOf(author))} (${author})` : author);
   const authors = [...new Set(runs.map(([author]) => author))].map(fully).join(", ");
   const head = `# ${WORDS.markdownTitle(name, rev)}\n\n${authors && `*${authors}*\n\n`}`;
   return `${head}${out.join("")}\n${footnotes.length ? `\n${footnotes.join("\n")}\n` : ""}`;

@@ -1,7 +1,9 @@
 // Pads that the browser has kept: on the way in, those that can be opened without a connection, and in the list of pads, those of
 // which something is not sent.
 import { named, setOrigin } from "./authors.js";
-import { doubt, forgetLogIn, stay, stayed } from "./log_in_link.js";
+import { isGuest } from "../clients/js/src/guests.js";
+import { guestNamed } from "./guest_secrets.js";
+import { doubt, forgetLogIn, stay, stayAsGuest, stayed } from "./log_in_link.js";
 import { $, element, say } from "./page.js";
 import { timeOf } from "./times.js";
 import { WORDS } from "./words.js";
@@ -17,7 +19,8 @@ export class KeptPads {
     const kept = (await this.list()).filter(({ isElsewhere }) => !isElsewhere);
     $("kept").hidden = !kept.length;
     $("kept-pads").replaceChildren(...kept.map((note) => {
-      const said = element("span", { textContent: WORDS.keptLine(note.name, timeOf(note.time), note.isUnsent) });
+      const who = isGuest(note.name) ? WORDS.guest(guestNamed(note.name)?.as ?? note.name) : note.name;
+      const said = element("span", { textContent: WORDS.keptLine(who, timeOf(note.time), note.isUnsent) });
       const button = element("button", { type: "button" }, element("b", { textContent: note.pad }), said);
       button.addEventListener("click", () => this.open(note));
       return element("li", {}, button);
@@ -43,7 +46,10 @@ export class KeptPads {
 export class LogInAgain {
   constructor(session, reason) {
     Object.assign(this, { session, reason });
-    $("log-in-again").addEventListener("click", () => this.open());
+    $("log-in-again").addEventListener("click", () => {
+      this.open();
+      if (guestNamed(session.name)) this.logIn(); // there is nothing to type
+    });
     $("again").addEventListener("submit", (event) => { event.preventDefault(); this.logIn(); });
     $("again-cancel").addEventListener("click", () => $("again-box").close());
   }
@@ -57,9 +63,10 @@ export class LogInAgain {
     if (!$("again-box").open) $("again-box").showModal();
   }
 
-  // That of the tab, if it has stayed this author's.
+  // That of the tab, if it has stayed this author's, and that of a guest that this browser was.
   get token() {
-    const login = stayed();
+    const login = stayed(), guest = guestNamed(this.session.name);
+    if (guest) return `${guest.link}.${guest.own}`;
     return login?.name === this.session.name ? login.token : "";
   }
 
@@ -75,7 +82,10 @@ export class LogInAgain {
       return false;
     } finally { $("again-go").disabled = false; }
     $("stay").checked = $("again-stay").checked;
-    if ($("stay").checked) stay(this.session.name, token); else forgetLogIn();
+    const guest = guestNamed(this.session.name);
+    if (guest) stayAsGuest(guest);
+    else if ($("stay").checked) stay(this.session.name, token);
+    else forgetLogIn();
     $("again-token").value = "";
     $("again-box").close();
     return true;

@@ -1,16 +1,7 @@
 // The page of keys, which `?` opens wherever it types nothing.
-import { $, element } from "./page.js";
-import { LABELS, WORDS } from "./words.js";
+import { $, later } from "./page.js";
 
-// Keys, and the label of what they do.
-const KEYS = [
-  ["?", "keys"], ["Ctrl+Z", "undo"], ["Ctrl+Y", "redo"],
-  ["Ctrl+B", "bold"], ["Ctrl+I", "italic"], ["Ctrl+K", "link"], ["Ctrl+Shift+7", "heading"], ["Ctrl+Shift+8", "list"], ["Ctrl+Shift+9", "task"],
-  ["Tab", "itemIn"], ["Shift+Tab", "itemOut"], ["Esc, Tab", "leaveText"],
-  ["Ctrl+Alt+M", "comment"], ["Ctrl+Alt+N", "nextComment"], ["Ctrl+Alt+S", "suggest"], ["Enter", "commentWords"],
-  ["Ctrl+Alt+F", "find"], ["Ctrl+Alt+O", "outline"], ["Ctrl+Alt+V", "nextView"], ["Ctrl+Alt+H", "history"], ["Ctrl+P", "print"],
-  ["Ctrl+Alt+W", "whoWrote"], ["←, →", "whoWroteNext"],
-];
+const loadList = later(() => import("./keys_list.js"));
 
 export class KeysBox {
   constructor() {
@@ -23,11 +14,9 @@ export class KeysBox {
     });
   }
 
-  open() {
-    $("keys-list").replaceChildren(...KEYS.flatMap(([keys, label]) => {
-      const parts = keys.split(/([+,] ?)/).map((part, k) => (k % 2 ? part : element("kbd", { textContent: WORDS.key(part) })));
-      return [element("dt", {}, ...parts), element("dd", { textContent: LABELS[label] })];
-    }));
-    $("keys-box").showModal();
+  async open() {
+    const list = await loadList().catch(() => null); // without a connection, there is none
+    list?.drawKeys($("keys-list"));
+    if (list && !$("keys-box").open) $("keys-box").showModal();
   }
 }

@@ -1,7 +1,7 @@
 // Who is here: the form to log in, log-in links, a tab that stays logged in, users of a proxy, and logging out.
 import { reason } from "./enter.js";
-import { doubt, forgetLogIn, onLink, setPad, stay, stayed } from "./log_in_link.js";
-import { $, fill, say } from "./page.js";
+import { doubt, forgetLogIn, onLink, setPad, stay, stayAsGuest, stayed } from "./log_in_link.js";
+import { $, fill, later, say } from "./page.js";
 import { forget } from "./storage.js";
 import { user } from "./user.js";
 import { WORDS, refusal } from "./words.js";
@@ -15,6 +15,7 @@ export class LogIn {
   constructor(session, { kept, enter, onAgain, onStay, onUnsent, onIn }) {
     Object.assign(this, { session, kept, enter, onAgain, onStay, onUnsent, onIn });
     Object.assign(this, { loggingIn: null, lastLink: Promise.resolve(), isLeaving: false });
+    this.loadDoor = later(async () => new (await import("./guest_door.js")).GuestDoor(session, { enter, kept, onIn }));
     $("log-in").addEventListener("submit", (event) => { event.preventDefault(); this.logIn(); });
     for (const id of ["log-out", "menu-log-out"]) $(id).addEventListener("click", () => this.logOut());
     session.on("over", doubt);
@@ -24,8 +25,11 @@ export class LogIn {
   begin() {
     const login = stayed();
     if (onLink((link) => this.take(link))) return;
-    if (login) this.logInAs(login); else this.beginAsUser();
+    if (login?.link) this.atDoor((door) => door.begin(login)); else if (login) this.logInAs(login); else this.beginAsUser();
   }
+
+  // What guests need is loaded once one comes.
+  atDoor(act) { return this.loadDoor().then(act, () => this.refuse(WORDS.noServer)); }
 
   // ---- logging in
 
@@ -39,7 +43,7 @@ export class LogIn {
   }
 
   ask() {
-    for (const id of ["choose", "here", "pad-name", "log-out"]) $(id).hidden = true;
+    for (const id of ["choose", "guest", "here", "pad-name", "log-out"]) $(id).hidden = true;
     for (const id of ["enter", "log-in"]) $(id).hidden = false;
     this.kept.show();
     $($("name").value ? "token" : "name").focus();
@@ -50,7 +54,7 @@ export class LogIn {
     fill($("name"), name);
     $("token").value = token;
     if (isOnce) $("stay").checked = false;
-    for (const id of ["log-in", "kept", "choose"]) $(id).hidden = true;
+    for (const id of ["log-in", "guest", "kept", "choose"]) $(id).hidden = true;
     return this.logIn();
   }
 
@@ -104,7 +108,8 @@ export class LogIn {
     await this.loggingIn;
     await session.lastEntry;
     const { login } = session;
-    if (!name || !token) this.followBroken(link);
+    if (link.link !== undefined) await this.atDoor((door) => door.follow(link, this));
+    else if (!name || !token) this.followBroken(link);
     else if (login?.name === name && login.token === token) this.open(pad);
     else if (session.isAway && session.name === name) { if (await this.onAgain(token)) this.open(pad); }
     else if (login || session.pad || session.isOver) await this.changeTo(link);
@@ -114,12 +119,12 @@ export class LogIn {
     }
   }
 
-  followBroken({ name }) {
+  followBroken({ name }, why = refusal(WRONG_TOKEN)) {
     const { login, pad } = this.session;
     setPad(pad?.name ?? "");
     if (login || pad) return;
     fill($("name"), name);
-    this.refuse(refusal(WRONG_TOKEN));
+    this.refuse(why);
   }
 
   // The author of the link is here already.
@@ -133,12 +138,12 @@ export class LogIn {
   async changeTo(link) {
     const { session } = this, before = session.pad?.name ?? "";
     if (!(await this.leave())) { setPad(before); return; }
-    const isKept = stay(link.name, link.token, !$("stay").checked);
+    const isKept = link.link ? stayAsGuest(link) : stay(link.name, link.token, !$("stay").checked);
     setPad(link.pad);
     if (isKept || session.isOver || session.isLost) { location.reload(); return; }
     session.logOut();
     this.enter.search?.stop();
-    await this.logInAs(link);
+    await (link.link ? this.atDoor((door) => door.begin(link)) : this.logInAs(link));
   }
 
   // ---- logging out

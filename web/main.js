@@ -54,7 +54,8 @@ whenOpen("refused", (reply, words) => desk.refused(reply, words));
 whenOpen("returned", () => desk.returned());
 whenOpen("reread", () => desk.reread());
 session.on("over", () => machines.follow());
-whenOpen("over", (error) => desk.over(error instanceof LostRevisions ? WORDS.gone : error instanceof Taken ? WORDS.taken : reason(error)));
+const why = (error) => (error instanceof LostRevisions ? WORDS.gone : error instanceof Taken ? WORDS.taken : session.isGuest && error.reply?.code === 201 ? WORDS.noGuests : reason(error));
+whenOpen("over", (error) => desk.over(why(error)));
 
 // Another server may answer now than before, under a number of its own.
 async function learnNumbers() {

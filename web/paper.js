@@ -23,7 +23,7 @@ export function titleOf({ name, text }) { return headingsOf(text)[0]?.text || na
 // Title, pad, revision, date and participants: who has written or commented. A text that begins with its title has it there.
 export function headOf({ name, rev, text, runs, comments }) {
   const date = dayOf(Date.now());
-  const people = [...new Set([...runs.map(([author]) => author), ...comments.map(({ author }) => author)])].map(fullName);
+  const people = [...new Set([...runs.map(([author]) => author), ...comments.map(({ author }) => author)])].map((author) => fullName(author));
   const title = titleOf({ name, text }), isWritten = /^\s*#\s/.test(text), head = element("header");
   if (!isWritten) head.append(element("p", { className: "paper-title", textContent: title }));
   head.append(element("p", { textContent: WORDS.printed(name, rev, date) }));

@@ -2,7 +2,7 @@
 import { hint, named } from "./authors.js";
 import { placed } from "../clients/js/src/comments.js";
 import { reason } from "./enter.js";
-import { History } from "../clients/js/src/history.js";
+import { Lost } from "../clients/js/src/errors.js";
 import { Lines } from "./lines.js";
 import { $, element, later, say } from "./page.js";
 import { pause } from "../clients/js/src/clock.js";
@@ -10,6 +10,15 @@ import { clockOf, dateOf, timeOf } from "./times.js";
 import { LABELS, WORDS } from "./words.js";
 
 const STEP = 90, MOST_STEPS = 300, DATES = 5;
+const QUESTIONS = ["at", "entry", "time", "birth", "marks", "mark", "timesBy", "revAt", "back", "compare"];
+
+// The server is asked for all of it, so what asks is loaded with the first question.
+const loadHistory = later(() => import("../clients/js/src/history.js").catch(() => { throw new Lost("not loaded"); }));
+
+function historyOf(pad) {
+  const history = later(async () => new (await loadHistory()).History(pad));
+  return Object.fromEntries(QUESTIONS.map((ask) => [ask, async (...given) => (await history())[ask](...given)]));
+}
 
 export class Past {
   // `onShow` is called when another revision is shown, or none. `onRestore` gets what makes the text of a revision the
@@ -33,7 +42,7 @@ export class Past {
 
   // Another pad is open.
   start(pad) {
-    this.history = new History(pad);
+    this.history = historyOf(pad);
     this.pad = pad;
     if (this.isOpen) this.close();
   }

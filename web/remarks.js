@@ -1,5 +1,6 @@
 // The comments of the open pad: which are seen, where they are marked in the text, and the dialog in which one is written.
 import { displayOf, named } from "./authors.js";
+import { isGuest } from "../clients/js/src/guests.js";
 import { authorsIn } from "../clients/js/src/rights.js";
 import { accept } from "../clients/js/src/suggestions.js";
 import { reply, threadsOf } from "../clients/js/src/threads.js";
@@ -151,7 +152,7 @@ export class Remarks {
 
   // Names of authors, to address them.
   drawNames() {
-    const { session } = this.desk, names = authorsIn(session.rights).filter((name) => name !== session.name);
+    const { session } = this.desk, names = authorsIn(session.rights).filter((name) => name !== session.name && !isGuest(name));
     $("mention").replaceChildren(...names.slice(0, 12).map((name) => {
       const button = element("button", { type: "button", className: "small", textContent: `@${name}`, title: displayOf(name) ?? "" });
       button.addEventListener("click", () => {

@@ -4,6 +4,7 @@ import { webSocket } from "./src/wire.js";
 
 export * as delta from "./src/delta.js";
 export { Lost, LostRevisions, Misfit, Refused, Superseded, Taken, Unsaved } from "./src/errors.js";
+export { isGuest, isLink, newSecret } from "./src/guests.js";
 export { History } from "./src/history.js";
 export { LIMITS } from "./src/limits.js";
 export { PACE, Pad } from "./src/sync.js";
@@ -19,9 +20,9 @@ export function opener(address, openers = OPENERS) {
   return open(address);
 }
 
-// Connects to a server and logs in. Resolves to a session, which opens pads.
-export async function connect(address, { name, token, open = opener(address), ...options }) {
+// Connects to a server and logs in, as an author or with the token of a guest. Resolves to a session, which opens pads.
+export async function connect(address, { name, token, guest, open = opener(address), ...options }) {
   const session = new Session({ open, ...options });
-  await session.logIn(name, token);
+  await (guest === undefined ? session.logIn(name, token) : session.logInAsGuest(guest));
   return session;
 }

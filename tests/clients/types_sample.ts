@@ -1,5 +1,5 @@
 // What a user of the types writes. tsc --strict takes it, and refuses each line behind @ts-expect-error.
-import { Delta, History, PadRequests, Refused, Session, connect, count, delta, tcp } from "vindrughe";
+import { Delta, History, PadRequests, Refused, Session, connect, count, delta, isGuest, isLink, newSecret, tcp } from "vindrughe";
 import { bindTextarea } from "vindrughe/textarea";
 import { bindCodeMirror } from "vindrughe/codemirror5";
 
@@ -19,6 +19,10 @@ export async function follow(token: string): Promise<string> {
   await new History(pad).mark(3, "Approved");
   const { marks } = await pad.call({ do: "marks" }), [{ author: by, text, time }] = await new History(pad).marks();
   console.log(by + text, time - marks[0].at);
+  const secret: string = await session.invite("comment"), guest = await connect("ws://a/socket", { guest: `${secret}.${newSecret()}` });
+  await guest.introduce("Ben Müller");
+  const [{ author: whose, name: called }] = await session.guests(), { guests } = await pad.call({ do: "guests" });
+  if (isGuest(whose) && !isLink(whose)) console.log(called + guests[0].name, guest.isGuest);
   for (const change of changes) if (change[0] === "insert") console.log(change[2].length);
   for (const [who, units] of runs) console.log(who.length + units);
   if (session.state === "over" && session.endedBy instanceof Refused) console.log(session.endedBy.code);
@@ -35,6 +39,10 @@ export async function follow(token: string): Promise<string> {
   await pad.call({ do: "mark", rev: 1 });
   // @ts-expect-error: no such right
   await session.grant("bob", "edit");
+  // @ts-expect-error: a link gives no right to own
+  await session.invite("own");
+  // @ts-expect-error: a guest has a token alone
+  await connect("ws://a/socket", { guest: "a.b", name: "ann", token });
   // @ts-expect-error: a step keeps, drops or inserts
   pad.type([{ skip: 3 }]);
   // @ts-expect-error: what is shown is read

@@ -1,6 +1,7 @@
 """A reference model of a whole server: sessions, pads, visits, rights and carets, around model.py."""
 from __future__ import annotations
 
+import hashlib
 import re
 import time
 from collections.abc import Callable
@@ -10,14 +11,17 @@ from typing import Any
 from model import EDITS, Cell, ModelPad, Request
 
 RIGHTS = ["none", "read", "comment", "write", "own"]
-NEEDS = {"insert": "write", "delete": "write", "edit": "write", "comment": "comment", "resolve": "comment", "grant": "own", "hand": "own", "mark": "write"}
+NEEDS = {"insert": "write", "delete": "write", "edit": "write", "comment": "comment", "resolve": "comment", "grant": "own", "hand": "own", "invite": "own", "mark": "write"}
 NAMES = {
     101: "NotJson", 102: "NotRequest", 200: "NoSession", 201: "BadToken", 202: "HaveSession", 300: "NoPad", 301: "PadExists",
     303: "BadName", 310: "NotJoined", 311: "Joined", 312: "Denied", 313: "Crowded", 320: "NoRevision", 321: "OutOfRange",
     322: "Empty", 323: "TooMuch", 326: "NoComment", 329: "NoVisit", 900: "Memory", 901: "StoreFull", 902: "Full",
 }
-MOST = {"edit": 10_000, "comment": 2_000, "parts": 16, "entries": 100, "times": 1_000, "moments": 100, "wait": 60, "marks": 200, "mark": 100}
+MOST = {"edit": 10_000, "comment": 2_000, "parts": 16, "entries": 100, "times": 1_000, "moments": 100, "wait": 60, "marks": 200, "mark": 100, "guest": 60}
 NAME = re.compile(r"[a-z0-9-]{1,32}")
+LETTERS = "abcdefghijklmnopqrstuvwxyz234567"
+CONTROL = re.compile("[\0-\x1f\x7f-\x9f]")
+SECRET = re.compile("[A-Za-z0-9_-]{22}")
 LONE = re.compile("[\ud800-\udfff]")
 
 
@@ -41,6 +45,24 @@ def is_absent_or_boolean(value: Any) -> bool:
     return value is None or isinstance(value, bool)
 
 
+def letters_of(text: str) -> str:
+    """13 letters that a text gives: of the first bytes of its SHA-256, the lowest five bits each."""
+    return "".join(LETTERS[byte & 31] for byte in hashlib.sha256(text.encode()).digest()[:13])
+
+
+def is_secret(value: Any) -> bool:
+    return isinstance(value, str) and SECRET.fullmatch(value) is not None
+
+
+def is_token(value: Any) -> bool:
+    """Two secrets with a point between them."""
+    return isinstance(value, str) and all(map(is_secret, parts := value.split("."))) and len(parts) == 2
+
+
+def is_guest(name: str) -> bool:
+    return name.startswith("guest-") and len(name) == 32
+
+
 def is_name(value: Any) -> bool:
     return isinstance(value, list) and len(value) == 2 and all(map(is_number, value))
 
@@ -60,6 +82,8 @@ FORMS: dict[str, dict[str, Callable[[Any], bool]]] = {
     "times": PAD, "birth": {**REV, "at": is_number}, "caret": {**REV, "at": is_number},
     "grant": {**PAD, "author": is_text, "right": lambda value: value in RIGHTS}, "hand": {**PAD, "author": is_text},
     "mark": {**REV, "text": is_text},
+    "guest": {"token": is_token}, "guests": PAD, "introduce": {**PAD, "as": lambda value: is_text(value) and not CONTROL.search(value)},
+    "invite": {**PAD, "secret": is_secret, "right": lambda value: value in ("read", "comment", "write")},
 }
 
 
@@ -114,6 +138,7 @@ class Room:
     given: list[Given] = field(default_factory=list)
     present: dict[int, Visitor] = field(default_factory=dict)
     marks: list[Request] = field(default_factory=list)
+    guests: dict[str, str] = field(default_factory=dict)
 
     def visit(self, number: int) -> Given:
         """A visit, or nobody's if the number was never given out."""
@@ -127,6 +152,7 @@ class ModelServer:
     def __init__(self, most_present: int = 64) -> None:
         self.most_present = most_present
         self.knows_visits = True
+        self.takes_guests = True
         self.replica = 1
         self.rooms: dict[str, Room] = {}
         self.sessions: set[Session] = set()
@@ -158,8 +184,9 @@ class ModelServer:
         return RIGHTS.index(self.right_of(name, room)) >= RIGHTS.index(right)
 
     def right_of(self, name: str, room: Room) -> str:
-        """The greater of the author's own right and that of everyone."""
-        return max(room.rights.get(name, "none"), room.rights.get("*", "none"), key=RIGHTS.index)
+        """The greater of the author's own right and that of everyone, or for a guest, that of the link."""
+        shared = name[:19] if is_guest(name) else "*"
+        return max(room.rights.get(name, "none"), room.rights.get(shared, "none"), key=RIGHTS.index)
 
     # ---- requests, refused in the order of docs/PROTOCOL.md
 
@@ -168,6 +195,8 @@ class ModelServer:
             return refuse(102)
         if request["do"] == "hello":
             return self._hello(session, request)
+        if request["do"] == "guest":
+            return self._guest(session, request)
         if session.name is None:
             return refuse(200)
         if request["do"] == "pads":
@@ -175,6 +204,8 @@ class ModelServer:
         name = request["pad"]
         if not NAME.fullmatch(name):
             return refuse(303)
+        if request["do"] == "create" and is_guest(session.name):
+            return refuse(312)
         if request["do"] == "create":
             return refuse(301) if name in self.rooms else self._create(session, session.name, name)
         room = self.rooms.get(name)
@@ -189,6 +220,15 @@ class ModelServer:
             return refuse(201)
         session.name = request["name"]
         return {"ok": True, "author": self.author(request["name"])}
+
+    def _guest(self, session: Session, request: Request) -> Request:
+        if session.name is not None:
+            return refuse(202)
+        if not self.takes_guests:
+            return refuse(201)
+        token = request["token"]
+        session.name = f"guest-{letters_of(token.partition('.')[0])}{letters_of(token)}"
+        return {"ok": True, "author": self.author(session.name)}
 
     def _pads(self, name: str) -> list[list[Any]]:
         return [[pad, self.right_of(name, room), room.pad.now] for pad, room in self.rooms.items() if self.may(name, room, "read")]
@@ -210,7 +250,7 @@ class ModelServer:
         if do == "leave":
             room.present.pop(session.visits.pop(name), None)
             return {"ok": True, "now": room.pad.now}
-        if not self.may(author, room, NEEDS.get(do, "read")):
+        if not self.may(author, room, NEEDS.get(do, "read")) or (do == "introduce" and not is_guest(author)):
             return refuse(312)
         return self._refusal(room, request) or self._answer(session, author, room, request)
 
@@ -252,6 +292,8 @@ class ModelServer:
             return refuse(322) if request["count"] == 0 else refuse(323) if request["count"] > MOST["entries"] else None
         if do == "times":
             return self._refusal_of_times(now, request)
+        if do == "introduce":
+            return refuse(322) if not request["as"] else refuse(323) if len(request["as"]) > MOST["guest"] else None
         if do == "mark":
             is_much = len(request["text"]) > MOST["mark"] or len(room.marks) >= MOST["marks"]
             return refuse(322) if not request["text"] else refuse(323) if is_much else None
@@ -284,7 +326,17 @@ class ModelServer:
             answer = {"rights": [list(one) for one in room.rights.items()]}
         elif do == "grant":
             room.rights[request["author"]] = request["right"]
+            if request["right"] == "none":
+                del room.rights[request["author"]]
             answer = {}
+        elif do == "invite":
+            room.rights[f"guest-{letters_of(request['secret'])}"] = request["right"]
+            answer = {}
+        elif do == "introduce":
+            room.guests[author] = request["as"]
+            answer = {}
+        elif do == "guests":
+            answer = {"guests": [{"author": name, "name": display} for name, display in room.guests.items()]}
         elif do == "mark":
             room.marks.append({"rev": request["rev"], "author": author, "at": round(time.time() * 1000), "text": request["text"]})
             answer = {}

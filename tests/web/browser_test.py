@@ -6,7 +6,6 @@
 PROGRAM is crates/pad_server/out/pad_server. Screenshots go into FOLDER, if it is given. With --disk, the page is that on
 disk, and not that of the program. The last line is `N passed, M failed`.
 """
-import os
 import random
 import sys
 import tempfile
@@ -30,7 +29,7 @@ from names_checks import display_names
 from page_checks import plain
 from threads_checks import threads
 from whole_day import whole_day
-from windows import BROKEN, ON_DISK, PAST, Keys, Line, Server, Window, units, until
+from windows import BROKEN, PAST, Keys, Line, Server, Window, play_all, units, until
 
 BOB_MAY = "Can write"
 HUES = """
@@ -369,21 +368,5 @@ def play(program, folder, tally):
             server.end()
 
 
-def main(program, folder=None):
-    """A browser that breaks says nothing about the page: it is told, and all is played once more. A failed check stays one."""
-    if folder:
-        os.makedirs(folder, exist_ok=True)
-    tally = {True: 0, False: 0}
-    try:
-        play(program, folder, tally)
-    except BROKEN as error:
-        print("the browser broke, and all is played again:", type(error).__name__, str(error).split("\n", 1)[0], flush=True)
-        tally[True] = 0
-        play(program, folder, tally)
-    print(f"{tally[True]} passed, {tally[False]} failed")
-    return int(tally[False] > 0)
-
-
 if __name__ == "__main__":
-    given = [word for word in sys.argv[1:] if word != ON_DISK]
-    sys.exit(main(os.path.realpath(given[0]), *given[1:]))
+    sys.exit(play_all(play, sys.argv[1:]))

@@ -228,13 +228,38 @@ def links(test):
     check("until its author logs out", until(lambda: ann.shows("log-in") and ann.run("return sessionStorage.length") == 0), ann.text_of("state"))
 
 
+def guests(test):
+    """A guest comes by a link to a server that takes guests, and the page is loaded again."""
+    link = "#guest=minutes.k3Zt0Qm8vJx2bN5wYcR7Ag"
+    secret, check = link.partition(".")[2], test.check
+    with tempfile.TemporaryDirectory() as home:
+        server = Server(test.server.program, home, ["--guests"])
+        try:
+            line = Line(server.port, "ann", "t1")
+            line.ask(do="create", pad="minutes")
+            line.ask(do="insert", pad="minutes", rev=0, at=0, text="The crane")
+            line.ask(do="invite", pad="minutes", secret=secret, right="write")
+            ben = Window(test.browser, server.url)
+            is_in = lambda: ben.text == "The crane" and ben.run("return document.querySelector('#here .is-me')?.textContent") == "Ben (guest)"
+            ben.load(link, wait="none")
+            check("a guest is asked for a name", until(lambda: ben.shows("guest") and ben.run("return document.activeElement.id") == "guest-name"))
+            ben.keys("Ben" + ENTER)
+            check("and is in", until(is_in), (ben.text, ben.text_of("guest-error")))
+            places = ben.run("return JSON.stringify([document.URL, history.state, performance.getEntries().map(({ name }) => name)])")
+            check("the link's secret is gone from the page", secret not in places and "#minutes" in places, places)
+            ben.run("window.isOld = true; location.reload()")
+            check("a window that is loaded again has the same guest", until(lambda: not ben.run("return window.isOld") and is_in()) and len(line.ask(do="guests", pad="minutes")["guests"]) == 1, ben.text)
+        finally:
+            server.end()
+
+
 def main(program):
     with tempfile.TemporaryDirectory() as home:
         server, browser = Server(program, home), None
         try:
             browser = Firefox()
             test = Test(server, browser)
-            for part in (way_in, typing, pasting, composing, emoji, comments, minutes, offline, reloaded, links):
+            for part in (way_in, typing, pasting, composing, emoji, comments, minutes, offline, reloaded, links, guests):
                 part(test)
         finally:
             if browser:

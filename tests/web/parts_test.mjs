@@ -10,8 +10,10 @@ import { Displays, fullName, hint, named, setDisplays, setOrigin } from "../../w
 import { authorsOf, colourOf, giveColours } from "../../web/colours.js";
 import { apply, applyRuns, compose, invert, move, snapped, splice, split, transform, typed } from "../../clients/js/src/delta.js";
 import { toMarkdown } from "../../web/exports.js";
+import { isGuest, isLink, newSecret } from "../../clients/js/src/guests.js";
 import { History, merged } from "../../clients/js/src/history.js";
 import { letterOf } from "../../web/keys.js";
+import { authorsIn, rightOf } from "../../clients/js/src/rights.js";
 import { Undo } from "../../clients/js/src/undo.js";
 import { count, deltaOf, partsOf, unit } from "../../clients/js/src/units.js";
 import { linkOf } from "../../web/log_in_link.js";
@@ -246,8 +248,87 @@ function logInLinks() {
   tell("a pad's address is no link", ["", "#", "#in", "#minutes-may", "#begin=ann.t1"].map(linkOf), [null, null, null, null, null]);
 }
 
+// What the fragment of an address says of an invitation.
+function guestLinks() {
+  const secret = "k3Zt0Qm8vJx2bN5wYcR-_g";
+  tell("a link for guests has a pad and a secret", linkOf(`#guest=minutes-may.${secret}`), { link: secret, pad: "minutes-may" });
+  tell("also as it is written by others", linkOf(`#guest=minutes-may%2E${secret}`), { link: secret, pad: "minutes-may" });
+  const cut = ["", "p", "p.", `p.${secret.slice(1)}`, `p.${secret}A`, `p.${secret.slice(1)}+`].map((text) => linkOf(`#guest=${text}`).link);
+  tell("cut off or malformed, it has none", cut, cut.map(() => ""));
+  tell("nor with a name that no pad can have", linkOf(`#guest=P.${secret}`), { link: "", pad: "" });
+}
+
+const LINK = "guest-q3vmd2yxw7rak", BEN = `${LINK}b5ntz4hcu6fpe`, EVE = `${LINK}aaaaaaaaaaaaa`;
+
+// Who is a guest, and what a guest may.
+function guests() {
+  tell("links and guests are known by their names", ["ann", "guest-7", LINK, BEN, `${BEN}x`, `xguest${BEN.slice(6)}`].map((name) => [isLink(name), isGuest(name)]),
+    [[false, false], [false, false], [true, false], [false, true], [false, false], [false, false]]);
+  const secrets = Array.from({ length: 200 }, newSecret);
+  tell("secrets have 22 characters, and none comes twice", [secrets.every((one) => /^[A-Za-z0-9_-]{22}$/.test(one)), new Set(secrets).size], [true, 200]);
+  const rights = [["ann", "own"], ["*", "write"], [LINK, "comment"], [EVE, "write"], ["bob", "read"]];
+  tell("a guest's right is the greater of its own and its link's, and not everybody's", [BEN, EVE, "guest-q3vmd2yxw7rabb5ntz4hcu6fpe", "bob"].map((name) => rightOf(name, rights)), ["comment", "write", "none", "write"]);
+  tell("links are no authors", authorsIn(rights), ["ann", EVE, "bob"]);
+}
+
+// A guest is always called one.
+async function guestsAreNamed() {
+  setOrigin("ann@1");
+  tell("a guest without a name has the last letters of the other one", [named(`${BEN}@1`), fullName(`${BEN}@1`), hint(`${BEN}@1`)], ["…u6fpe (guest)", `…u6fpe (guest, ${BEN})`, BEN]);
+  const called = (name) => { setDisplays([BEN], [{ author: BEN, name }]); return named(`${BEN}@1`); };
+  tell("a name stands with the word", called("Ben Müller"), "Ben Müller (guest)");
+  tell("and the account", fullName(`${BEN}@1`), `Ben Müller (guest, ${BEN})`);
+  tell("whatever it is", ["ann", "Ann Example (ann)", "(guest)"].map(called), ["ann (guest)", "Ann Example (ann) (guest)", "(guest) (guest)"]);
+  tell("no blanks push the word away", called(`Ann\u0000\n\u3000\u2003\u00a0\u2028 \u2800\u3164${" ".repeat(40)}B`), "Ann B (guest)");
+  tell("and no sign turns it", [called("\u202eAnn\u2067"), called("\u05d0\u05d1"), called("\u{10900}")], ["Ann (guest)", "\u2068\u05d0\u05d1\u2069 (guest)", "\u2068\u{10900}\u2069 (guest)"]);
+  called("Ben *Müller*");
+  const file = toMarkdown({ name: "p", rev: 2, text: "ab", runs: [["ann@1", 1], [`${BEN}@1`, 1]], comments: [{ author: `${EVE}@1`, from: 0, to: 1, text: "why?", isResolved: false }] });
+  tell("an export has the word, and the account", ["<sup>Ben \\*Müller\\* (guest)</sup>", `*ann@1, Ben \\*Müller\\* (guest, ${BEN}@1)*`, "**…aaaaa (guest)**"].map((words) => file.includes(words)), [true, true, true]);
+  await speak("de");
+  tell("and so does every language", named(`${BEN}@1`), "Ben *Müller* (Gast)");
+  await speak("en");
+  setDisplays([BEN], []);
+  setOrigin("");
+}
+
+// The pad is asked for its guests, and again where one has no name yet.
+async function guestsAsked() {
+  const asked = [], session = { login: {}, pad: {}, people: async (names) => { asked.push(names); return []; }, guests: async () => { asked.push("guests"); return known; } };
+  let known = [{ author: EVE, name: "Eve" }], changes = 0;
+  const displays = new Displays(session, () => { changes++; });
+  setOrigin("ann@1");
+  await displays.ask(["ann@1", `${EVE}@1`, `${EVE}@2`]);
+  tell("guests are asked for of the pad, and others of the server", [asked.splice(0), named(`${EVE}@1`), named(`${EVE}@2`), changes], [["guests", ["ann"]], "Eve (guest)", `${EVE}@2`, 1]);
+  await displays.ask([`${EVE}@1`]);
+  tell("once", asked.splice(0), []);
+  await displays.ask([`${EVE}@1`, `${BEN}@1`]);
+  for (let k = 0; k < 3; k++) await displays.ask([`${BEN}@1`]);
+  tell("another guest is asked for, and not again at once", asked.splice(0), ["guests"]);
+  displays.guestsAt -= 10_000;
+  known = [{ author: BEN, name: "Ben" }, { author: EVE, name: "Eva" }];
+  await displays.ask([`${BEN}@1`, `${EVE}@1`]);
+  tell("but later, while it has no name", [asked.splice(0), named(`${BEN}@1`), named(`${EVE}@1`)], [["guests"], "Ben (guest)", "Eva (guest)"]);
+  displays.guestsAt -= 10_000;
+  await displays.ask([`${BEN}@1`]);
+  tell("and then no more", asked.splice(0), []);
+  displays.forgetGuests();
+  await displays.ask([`${BEN}@1`]);
+  known = [{ author: BEN, name: "Benno" }];
+  for (let k = 0; k < 3; k++) {
+    await displays.ask([`${BEN}@1`]);
+    displays.guestsAt -= 10_000;
+  }
+  tell("a guest who comes again may say another name in a moment", [asked.splice(0), named(`${BEN}@1`)], [["guests", "guests"], "Benno (guest)"]);
+  session.pad = null;
+  displays.forget();
+  await displays.ask([`${BEN}@1`]);
+  tell("without a pad nobody can be asked", asked.splice(0), []);
+  setDisplays([BEN, EVE], []);
+  setOrigin("");
+}
+
 // What workers load, and what a page loads only if it needs it.
-const LATER = /^(sw\.js|vendor\/.*|languages\/.*|minutes\/(rules|worker)\.js|(characters|go_on|named_revisions|pad_search|who_wrote)\.js|clients\/js\/src\/go_on\.js)$/;
+const LATER = /^(sw\.js|vendor\/.*|languages\/.*|minutes\/(rules|worker)\.js|(characters|go_on|guest_door|keys_list|named_revisions|pad_search|rights|who_wrote)\.js|clients\/js\/src\/(go_on|history)\.js)$/;
 
 function modules() {
   const html = fs.readFileSync(path.join(WEB, "index.html"), "utf8");
@@ -286,7 +367,7 @@ function words() {
   const isOwn = (name) => /\.(js|html)$/.test(name) && !/^(languages|vendor)\/|^words\.js$/.test(name);
   const read = (name) => fs.readFileSync(path.join(WEB, name), "utf8"), files = filesOf(WEB).filter(isOwn).map(read).join("\n");
   const named = [...files.matchAll(/data-(?:text|label|hint|place)="(\w+)"/g), ...files.matchAll(/LABELS\.(\w+)/g)].map(([, key]) => key);
-  const listed = [...`${read("keys_box.js")}${read("templates.js")}`.matchAll(/"(\w+)"/g)].map(([, key]) => key);
+  const listed = [...`${read("keys_list.js")}${read("templates.js")}`.matchAll(/"(\w+)"/g)].map(([, key]) => key);
   tell("each label has its word", named.filter((key) => !LABELS[key]), []);
   tell("each label is used", Object.keys(LABELS).filter((key) => !named.includes(key) && !listed.includes(key)), []);
   const said = [...`${files}${read("words.js")}`.matchAll(/WORDS\.(\w+)/g)].map(([, key]) => key);
@@ -349,6 +430,10 @@ await displaysAsked();
 keys();
 linesFound();
 logInLinks();
+guestLinks();
+guests();
+await guestsAreNamed();
+await guestsAsked();
 modules();
 colours();
 words();

@@ -106,6 +106,10 @@ def two_windows_of_a_browser():
     script(PYTHON, "browser_test.py", path_of("pad_server"))
 
 
+def guests_come_by_a_link():
+    script(PYTHON, "guests_test.py", path_of("pad_server"))
+
+
 def compositions_at_random(rounds=100):
     script(PYTHON, "random_compositions.py", path_of("pad_server"), rounds)
 
@@ -139,6 +143,7 @@ TESTS = [
     named(forty_pages_type_beside_a_peer, 180),
     named(two_windows_of_a_browser, 1_200),
     named(two_windows_of_firefox, 200),
+    named(guests_come_by_a_link, 400),
     named(a_browser_is_killed_while_its_author_types, 300, alone=True),
 ]
 

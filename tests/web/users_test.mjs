@@ -1,4 +1,4 @@
-// Who a page is where a proxy has logged its user in: what `hello` and /me say, also after a connection was lost.
+// Who a page is where a proxy has logged its user in: what `hello` and /me say, also after a connection was lost; and a page of a guest.
 //
 //     node tests/web/users_test.mjs
 //
@@ -10,7 +10,7 @@ const tally = new Tally(), { tell } = tally;
 
 // A server behind a proxy that has logged `user` in, or nobody, and a connection of a page to it.
 function begin(user) {
-  const server = { user, hellos: [], channels: [] };
+  const server = { user, hellos: [], channels: [], takesGuests: true };
   const open = () => {
     const channel = {
       signedIn: server.user,
@@ -19,7 +19,8 @@ function begin(user) {
         const request = JSON.parse(text);
         server.hellos.push(request);
         const reply = this.signedIn ? { code: 202, error: "HaveSession", ok: false }
-          : request.token === "t" ? { author: `${request.name}@1`, ok: true } : { code: 201, error: "BadToken", ok: false };
+          : request.do === "guest" && server.takesGuests ? { author: `guest-${request.token}@1`, ok: true }
+          : request.do === "hello" && request.token === "t" ? { author: `${request.name}@1`, ok: true } : { code: 201, error: "BadToken", ok: false };
         queueMicrotask(() => this.onmessage({ data: JSON.stringify(reply) }));
       },
       close() {},
@@ -72,5 +73,25 @@ await tally.run([
     server.channels[0].onclose();
     const error = await ends;
     tell("and so it does where nobody is logged in there any more", error.reply?.code === 201 && page.isOver, String(error));
+  },
+  async () => {
+    const { server, page } = begin(null);
+    await page.logInAsGuest("secrets");
+    server.channels[0].onclose();
+    await new Promise((done) => { page.onState = () => { if (!page.isLost) done(); }; });
+    const asked = JSON.stringify(server.hellos);
+    tell("a guest logs in as one, also after the connection was lost", page.me === "guest-secrets@1" && asked === '[{"do":"guest","token":"secrets"},{"do":"guest","token":"secrets"}]', asked);
+  },
+  async () => {
+    const { server, page } = begin(null), ends = over(page);
+    await page.logInAsGuest("secrets");
+    server.takesGuests = false;
+    server.channels[0].onclose();
+    const error = await ends;
+    tell("where the server takes no guests any more, the page ends", error.reply?.code === 201 && page.isOver, String(error));
+  },
+  async () => {
+    const { page } = begin("ann");
+    tell("a user of a proxy is no guest", (await refusal(page.logInAsGuest("secrets"))) === 202 && page.login === null && page.me === "", page.me);
   },
 ]);

@@ -256,3 +256,21 @@ class ChangedPage:
 def free_port():
     with socket.create_server(("127.0.0.1", 0)) as one:
         return one.getsockname()[1]
+
+
+def play_all(play, words):
+    """Plays a program's checks, as the words of a command line say: the program, and a folder for pictures. A browser that breaks says
+    nothing about the page: it is told, and all is played once more. A failed check stays one. Returns the exit status."""
+    program, *folders = [word for word in words if word != ON_DISK]
+    folder = folders[0] if folders else None
+    if folder:
+        os.makedirs(folder, exist_ok=True)
+    tally = {True: 0, False: 0}
+    try:
+        play(os.path.realpath(program), folder, tally)
+    except BROKEN as error:
+        print("the browser broke, and all is played again:", type(error).__name__, str(error).split("\n", 1)[0], flush=True)
+        tally[True] = 0
+        play(os.path.realpath(program), folder, tally)
+    print(f"{tally[True]} passed, {tally[False]} failed")
+    return int(tally[False] > 0)

@@ -51,12 +51,16 @@ export class Connection {
 
   // Resolves to the author as whom the connection is logged in. Where a proxy has done that, it has to be the same author, each time.
   async greet(wire) {
-    const reply = await wire.ask({ do: "hello", ...this.login }), isUser = reply.code === HAVE_SESSION;
+    const { name, token } = this.login, reply = await wire.ask(name === null ? { do: "guest", token } : { do: "hello", name, token });
+    const isUser = reply.code === HAVE_SESSION;
     const author = isUser ? await this.user() : reply.author;
     if (!(reply.ok || (isUser && author?.split("@")[0] === this.login?.name))) throw new Refused(reply);
     this.isUser = isUser;
     return author;
   }
+
+  // As a guest, whose name the server makes from the secrets of the link and of the guest, with a point between them.
+  logInAsGuest(token) { return this.logIn(null, token); }
 
   async logIn(name, token) {
     const login = { name, token };

@@ -173,7 +173,7 @@ export class Drafts {
 
   async logInAgain(token) {
     const { session } = this, { pad } = session;
-    await session.logIn(session.name, token);
+    await session.logIn(session.isGuest ? null : session.name, token);
     const { wire } = session;
     try {
       this.addOthers(await this.take(pad.name));

@@ -1,4 +1,6 @@
 // Who has which right on a pad.
+import { isGuest, isLink, linkOf } from "./guests.js";
+
 const RIGHTS = ["none", "read", "comment", "write", "own"];
 
 // Who stands in a list of rights for all authors.
@@ -9,11 +11,11 @@ export async function rightsOn(pad) {
   try { return (await pad.call({ do: "rights" })).rights; } catch (error) { if (error.reply?.code === 312) return []; throw error; }
 }
 
-// An author's right: the greater of the author's own and that of everyone.
+// An author's right: the greater of the author's own and that of everyone, or for a guest, that of the guest's link.
 export function rightOf(name, rights) {
-  const held = rights.filter(([author]) => author === name || author === EVERYONE).map(([, right]) => RIGHTS.indexOf(right));
+  const shared = isGuest(name) ? linkOf(name) : EVERYONE, held = rights.filter(([author]) => author === name || author === shared).map(([, right]) => RIGHTS.indexOf(right));
   return RIGHTS[Math.max(0, ...held)];
 }
 
 // The authors that a list of rights names.
-export const authorsIn = (rights) => rights.map(([author]) => author).filter((author) => author !== EVERYONE);
+export const authorsIn = (rights) => rights.map(([author]) => author).filter((author) => author !== EVERYONE && !isLink(author));

@@ -5,6 +5,7 @@ import { Connection, PASSING } from "./connection.js";
 import { Drafts, adopt } from "./drafts.js";
 import { Lost, LostRevisions, Misfit, Refused, Superseded, Unsaved } from "./errors.js";
 import { Events } from "./events.js";
+import { isGuest, newSecret } from "./guests.js";
 import { KeptWords } from "./kept.js";
 import { LIMITS } from "./limits.js";
 import { OwnCaret } from "./own_caret.js";
@@ -52,6 +53,7 @@ export class Session extends Connection {
   }
 
   get name() { return this.me.split("@")[0]; }
+  get isGuest() { return isGuest(this.name); }
   get mayWrite() { return this.right === "write" || this.right === "own"; }
   get mayComment() { return this.mayWrite || this.right === "comment"; }
 
@@ -374,6 +376,19 @@ export class Session extends Connection {
     await this.call({ ...request, pad: this.pad.name });
     await this.readRights();
   }
+
+  // ---- guests
+
+  // Makes a link by which guests come, with the right to read, comment or write. Resolves to its secret, which the server does not keep.
+  async invite(right) {
+    const secret = newSecret();
+    await this.changeRights({ do: "invite", secret, right });
+    return secret;
+  }
+
+  // A guest is called by this name on the pad. The names of all guests of the pad, in the order in which they first gave one.
+  async introduce(name) { await this.call({ do: "introduce", pad: this.pad.name, as: name }); }
+  async guests() { return (await this.call({ do: "guests", pad: this.pad.name })).guests; }
 
   // The author's caret is at this unit of what is shown.
   moveCaret(at) { this.caret.moveTo(at); }

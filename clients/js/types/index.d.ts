@@ -6,9 +6,9 @@ import * as delta from "./delta.js";
 export { delta };
 export { Delta, Run, Step, Stretch } from "./delta.js";
 import { Delta, Run, Stretch } from "./delta.js";
-import { PadRequests, Requests, Right, Entry, Name } from "./requests.js";
+import { Guest, LinkRight, PadRequests, Requests, Right, Entry, Name } from "./requests.js";
 
-export { Change, Entry, Name, PadRequests, Requests, Right } from "./requests.js";
+export { Change, Entry, Guest, LinkRight, Name, PadRequests, Requests, Right } from "./requests.js";
 
 // ---- connecting
 
@@ -58,14 +58,15 @@ export interface DraftStore {
   drop(id: string): Promise<void>;
 }
 
-export interface ConnectOptions extends SessionOptions {
-  name: string;
-  token: string;
-  /** Another way to open connections than the address's scheme says. */
-  open?: Opener;
-}
+/** Another way to open connections than the address's scheme says. */
+export interface Opening extends SessionOptions { open?: Opener }
+/** `guest`: the secret of a link and one of the guest's own, with a point between them. */
+export type ConnectOptions = Opening & ({ name: string; token: string; guest?: undefined } | { guest: string; name?: undefined; token?: undefined });
 
-/** Connects and logs in. Fails with `Lost` without a server, and with `Refused` (201) if the name or the token is wrong. */
+/**
+ * Connects and logs in, as an author or as a guest. Fails with `Lost` without a server, and with `Refused` (201) if the name or the
+ * token is wrong, or if the server takes no guests.
+ */
 export function connect(address: string, options: ConnectOptions): Promise<Session>;
 
 export interface Pace { gather: number; rest: number; wait: number }
@@ -124,6 +125,8 @@ export class Session {
   readonly name: string;
   /** Whether a proxy has logged the author in, and not a token. */
   readonly isUser: boolean;
+  /** Whether the author came by a link for guests, without an account. */
+  readonly isGuest: boolean;
   /** The pad that is open, and what is there with it, or null. */
   readonly pad: Pad | null;
   readonly presence: Presence | null;
@@ -131,7 +134,7 @@ export class Session {
   /** Words of the author that the server did not take. */
   readonly kept: KeptWords;
   readonly state: State;
-  /** The author's right: the greater of the author's own and that of everyone. */
+  /** The author's right: the greater of the author's own and that of everyone, or for a guest, that of the guest's link. */
   readonly right: Right;
   /** Who has which right. The owner is the first; `*` is everyone. */
   readonly rights: [author: string, right: Right][];
@@ -152,6 +155,7 @@ export class Session {
 
   /** Connects. Fails as `connect` does. */
   logIn(name: string, token: string): Promise<void>;
+  logInAsGuest(token: string): Promise<void>;
   /** Ends the session, without waiting for what is not sent: `saved` does that. */
   logOut(): void;
 
@@ -187,6 +191,12 @@ export class Session {
   grant(author: string, right: Right): Promise<void>;
   /** Hands the pad over to an author; the owner before may still write. Fails with `Refused`. */
   hand(author: string): Promise<void>;
+  /** Makes a link by which guests come to the pad with a right. Resolves to its secret, which the server does not keep. */
+  invite(right: LinkRight): Promise<string>;
+  /** A guest is called by this name on the pad, 1 to 60 characters. Who is no guest is refused with 312. */
+  introduce(name: string): Promise<void>;
+  /** The guests of the pad who have chosen a name, in the order in which they first did. */
+  guests(): Promise<Guest[]>;
 
   /** Asks for the comments, the rights and who is here, rather than wait until they are asked for. */
   refresh(): Promise<void>;
@@ -326,6 +336,14 @@ export class Superseded extends Error {}
 export class Taken extends Error {}
 /** There are changes that were not taken, or cannot be sent. `cause` is why. */
 export class Unsaved extends Error { readonly cause?: Error }
+
+// ---- guests
+
+/** Whether an author's name, without the number of a server, is that of a guest, or of a link for guests. */
+export function isGuest(name: string): boolean;
+export function isLink(name: string): boolean;
+/** A secret for a link, or one of a guest's own: 16 random bytes as 22 characters. In Node from version 20 on. */
+export function newSecret(): string;
 
 // ---- characters
 

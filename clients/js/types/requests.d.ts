@@ -2,6 +2,10 @@
 // is added to the server is added here alone.
 
 export type Right = "none" | "read" | "comment" | "write" | "own";
+/** What a link for guests can give. */
+export type LinkRight = "read" | "comment" | "write";
+/** A guest of a pad, and the name that the guest has chosen. */
+export interface Guest { author: string; name: string }
 /** The name of an operation or a comment: the number of its server, and which of that server's operations it is. */
 export type Name = [origin: number, number: number];
 export type Change = ["keep", number] | ["drop", number] | ["insert", string, string];
@@ -44,6 +48,11 @@ export interface PadRequests {
   /** The named revisions; `at` is when, in milliseconds since 1970. */
   marks: On<None, { marks: { at: number; author: string; rev: number; text: string }[] }>;
   rights: On<None, { rights: [author: string, right: Right][] }>;
+  /** Makes a link for guests, by its secret. */
+  invite: On<{ secret: string; right: LinkRight }, None>;
+  /** A guest is called by this name. */
+  introduce: On<{ as: string }, None>;
+  guests: On<None, { guests: Guest[] }>;
 }
 
 type WithPad = { [Do in keyof PadRequests]: { ask: { pad: string } & PadRequests[Do]["ask"]; reply: PadRequests[Do]["reply"] } };
@@ -51,6 +60,8 @@ type WithPad = { [Do in keyof PadRequests]: { ask: { pad: string } & PadRequests
 /** All requests of an author. */
 export interface Requests extends WithPad {
   hello: Request<{ name: string; token: string }, { author: string }>;
+  /** The secret of a link and one of the guest's own, with a point between them. */
+  guest: Request<{ token: string }, { author: string }>;
   pads: Request<None, { pads: [name: string, right: Right, now: number][] }>;
   create: On<{ pad: string }, { visit: number }>;
   join: On<{ pad: string }, { visit: number }>;

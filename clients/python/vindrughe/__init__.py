@@ -17,11 +17,12 @@ from .events import (
     Came, Changed, CommentsChanged, Ended, Event, Moved, PresenceChanged, Received, Reread, RightsChanged, StateChanged, Went,
     WordsRefused,
 )
+from .guests import is_guest, is_link, new_secret
 from .history import ComparedRun, History, Revision
 from .kept import KeptWords
 from .pad import Pad
 from .presence import Person, Presence
-from .requests import Birth, Changes, Counts, Entry, Kind, Name, NamedRevision, PadRequests, PlacedComment, Present, Right
+from .requests import Birth, Changes, Counts, Entry, Kind, LinkRight, Name, NamedRevision, PadRequests, PlacedComment, Present, Right
 from .session import Session, State
 from .sync import Pace
 from .transports import Channel, Opener, opener, tcp, websocket
@@ -31,9 +32,9 @@ __version__ = "0.1.0"
 
 __all__ = [
     "Birth", "Came", "Changed", "Changes", "Channel", "Comment", "Comments", "CommentsChanged", "ComparedRun", "Counts", "Delta",
-    "Drop", "Ended", "Entry", "Event", "History", "Insert", "Keep", "KeptWords", "Kind", "ListedPad", "Lost", "LostRevisions", "Misfit",
-    "Moved", "Name", "NamedRevision", "Opener", "Pace", "Pad", "PadError", "PadRequests", "Person", "PlacedComment", "Presence",
+    "Drop", "Ended", "Entry", "Event", "History", "Insert", "Keep", "KeptWords", "Kind", "LinkRight", "ListedPad", "Lost", "LostRevisions",
+    "Misfit", "Moved", "Name", "NamedRevision", "Opener", "Pace", "Pad", "PadError", "PadRequests", "Person", "PlacedComment", "Presence",
     "PresenceChanged", "Present", "Received", "Refused", "Reread", "Revision", "Right", "RightsChanged", "Run", "Session",
     "State", "StateChanged", "Step", "Superseded", "Unsaved", "Visit", "Went", "WordsRefused", "connect", "delta",
-    "difference", "limits", "opener", "tcp", "websocket",
+    "difference", "is_guest", "is_link", "limits", "new_secret", "opener", "tcp", "websocket",
 ]

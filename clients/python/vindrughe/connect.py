@@ -12,7 +12,7 @@ from .transports import opener
 
 @asynccontextmanager
 async def connect(
-    address: str, *, name: str, token: str, tls: ssl.SSLContext | None = None, pace: Pace = Pace()
+    address: str, *, name: str = "", token: str = "", guest: str | None = None, tls: ssl.SSLContext | None = None, pace: Pace = Pace()
 ) -> AsyncIterator[Session]:
     """Connects to a server and logs in, for a block of `async with`.
 
@@ -22,17 +22,18 @@ async def connect(
     Args:
         address: tcp://HOST:PORT, tls://HOST:PORT, or ws://HOST:PORT/socket and wss://.. with the package websockets.
         name, token: the author's, as the accounts file of the server has them.
+        guest: in place of both, the token of a guest: the secret of a link and one of the guest's own, with a point between them.
         tls: the context of tls:// and wss://, by default ssl.create_default_context().
         pace: how often edits are sent and changes are asked for.
 
     Raises:
         Lost: there is no server.
-        Refused: the name or the token is wrong (201), or too many clients are connected (902).
+        Refused: the name or the token is wrong, or the server takes no guests (201), or too many clients are connected (902).
         Unsaved: at the end of the block, if the server has refused something.
         ValueError: the address has another form.
     """
     session = Session(opener(address, tls), pace)
-    await session.log_in(name, token)
+    await (session.log_in(name, token) if guest is None else session.log_in_as_guest(guest))
     try:
         yield session
         await session.saved()

@@ -20,8 +20,16 @@ _CROWDED = 313
 
 @dataclass(frozen=True, slots=True)
 class Login:
-    name: str
+    """Without a name, it is a guest's."""
+
+    name: str | None
     token: str = field(repr=False)
+
+    @property
+    def request(self) -> dict[str, str]:
+        if self.name is None:
+            return {"do": "guest", "token": self.token}
+        return {"do": "hello", "name": self.name, "token": self.token}
 
 
 class Connection:
@@ -96,7 +104,19 @@ class Connection:
             Lost: there is no server.
             Refused: the name or the token is wrong (201), or too many clients are connected (902).
         """
-        login = self._login = Login(name, token)
+        await self._log_in(Login(name, token))
+
+    async def log_in_as_guest(self, token: str) -> None:
+        """Connects, and logs in as a guest. The token is the secret of a link and one of the guest's own, with a point between them.
+
+        Raises:
+            Lost: there is no server.
+            Refused: the server takes no guests (201), or too many clients are connected (902).
+        """
+        await self._log_in(Login(None, token))
+
+    async def _log_in(self, login: Login) -> None:
+        self._login = login
         try:
             await self._connect(login)
         except BaseException:
@@ -112,9 +132,10 @@ class Connection:
         self._wire = wire
         try:
             await wire.connect()
-            reply = await wire.ask({"do": "hello", "name": login.name, "token": login.token})
+            request = login.request
+            reply = await wire.ask(request)
             if not reply["ok"]:
-                raise Refused.of(reply, "hello")
+                raise Refused.of(reply, request["do"])
             self.me, is_logged_in = reply["author"], True
         except BaseException as error:
             if wire is self._wire:

@@ -13,6 +13,7 @@ from .events import (
     Came, Changed, CommentsChanged, Event, Moved, PresenceChanged, Received, Reread, RightsChanged, StateChanged, Went,
     WordsRefused,
 )
+from .guests import is_guest, link_of
 from .own_caret import OwnCaret
 from .pad import Pad
 from .presence import Presence
@@ -30,8 +31,9 @@ _NO_VISIT = 329  # the server does not know the old visit
 
 
 def _right_of(name: str, rights: list[tuple[str, Right]]) -> Right:
-    """The greater of the author's own right and that of everyone."""
-    return max((right for author, right in rights if author in (name, EVERYONE)), key=RIGHTS.index, default="none")
+    """The greater of the author's own right and that of everyone, or for a guest, that of the guest's link."""
+    shared = link_of(name) if is_guest(name) else EVERYONE
+    return max((right for author, right in rights if author in (name, shared)), key=RIGHTS.index, default="none")
 
 
 class OpenPad:

@@ -14,6 +14,8 @@ from .errors import Misfit
 
 Right: TypeAlias = Literal["none", "read", "comment", "write", "own"]
 RIGHTS: tuple[Right, ...] = get_args(Right)
+#: What a link for guests can give.
+LinkRight: TypeAlias = Literal["read", "comment", "write"]
 EVERYONE = "*"
 Kind: TypeAlias = Literal["insert", "delete", "edit", "comment", "resolve"]
 #: The name of an operation or a comment: the number of its server, and which of that server's operations it is.
@@ -170,6 +172,18 @@ class PadRequests(ABC):
         """Hands the pad over to an author. The owner before may still write."""
         await self.call("hand", author=author)
 
+    async def invite(self, secret: str, right: LinkRight) -> None:
+        """Makes a link for guests by its secret, 22 characters of base64url, or gives it another right."""
+        await self.call("invite", secret=secret, right=right)
+
+    async def introduce(self, name: str) -> None:
+        """A guest is called by this name on the pad.
+
+        Raises:
+            Refused: this author is no guest (312), or the name is empty (322) or has more than 60 characters (323).
+        """
+        await self.call("introduce", **{"as": name})
+
     async def put_mark(self, rev: int, text: str) -> None:
         """Names a revision. A name is never changed or taken away.
 
@@ -259,6 +273,10 @@ class PadRequests(ABC):
         """The newest revision, and who is on the pad, in the order of coming."""
         reply = await self.call("who")
         return reply["now"], [Present(one["author"], one["visit"], one["caret"]) for one in reply["who"]]
+
+    async def read_guests(self) -> dict[str, str]:
+        """The names that the guests of the pad have chosen, in the order in which they first did."""
+        return {one["author"]: one["name"] for one in (await self.call("guests"))["guests"]}
 
     async def read_rights(self) -> list[tuple[str, Right]]:
         """Who has which right. The owner is the first; `*` is everyone."""

@@ -10,11 +10,12 @@ from .comments import Comments
 from .connection import Connection
 from .errors import Lost, LostRevisions, PadError, Refused, Superseded, Unsaved
 from .events import CommentsChanged, Ended, Event, Events, StateChanged
+from .guests import is_guest, new_secret
 from .kept import KeptWords
 from .open_pad import OpenPad
 from .pad import Pad
 from .presence import Person, Presence
-from .requests import Name, Right
+from .requests import LinkRight, Name, Right
 from .sync import Pace
 from .transports import Opener
 from .visit import ListedPad, Visit
@@ -68,8 +69,14 @@ class Session(Connection):
         return self._opened().comments
 
     @property
+    def is_guest(self) -> bool:
+        """Whether the author came by a link for guests, without an account."""
+        return is_guest(self.name)
+
+    @property
     def right(self) -> Right:
-        """The author's right on the pad: the greater of the author's own and that of everyone."""
+        """The author's right on the pad: the greater of the author's own and that of everyone, or for a guest, that of the guest's
+        link."""
         return self._open.right if self._open else "none"
 
     @property
@@ -293,6 +300,29 @@ class Session(Connection):
         opened = self._opened()
         await opened.pad.hand(author)
         await opened.read_rights()
+
+    async def invite(self, right: LinkRight) -> str:
+        """Makes a link by which guests come to the pad with a right. Returns its secret, which the server does not keep.
+
+        Raises:
+            Refused: this author may not own the pad (312).
+        """
+        opened, secret = self._opened(), new_secret()
+        await opened.pad.invite(secret, right)
+        await opened.read_rights()
+        return secret
+
+    async def introduce(self, name: str) -> None:
+        """A guest is called by this name on the pad.
+
+        Raises:
+            Refused: this author is no guest (312), or the name is empty (322) or has more than 60 characters (323).
+        """
+        await self._opened().pad.introduce(name)
+
+    async def guests(self) -> dict[str, str]:
+        """The names that the guests of the pad have chosen, in the order in which they first did."""
+        return await self._opened().pad.read_guests()
 
     def move_caret(self, at: int) -> None:
         """Tells others where the author's caret is in what is shown."""

@@ -3,7 +3,7 @@ use Rattle.std.proofs.Common.{◌≡◌, ℕ, ◌+◌, ◌≤◌, ◌<◌, Bool,
 use Rattle.std.proofs.Common.{min, sum_by, Option, Some, None, refl, arith, ltb-false, leb-false}
 use Rattle.std.proofs.lemmas.Bool.{or_parts}
 use Rattle.std.proofs.lemmas.List.Sums.{sum_by-cons}
-use Rattle.std.specs.List.{AllByRecursion, list_any}
+use Rattle.std.specs.List.{AllByRecursion}
 use Rattle.pad_model.specs.History.{IsHistory, clock_of_characters}
 use Rattle.pad_model.specs.Operation.{characters_in}
 use Rattle.pad_model.specs.Visible.{visible}

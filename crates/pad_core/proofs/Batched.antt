@@ -1,7 +1,7 @@
 -- What a batch gives, one operation after the other, and where the operations begin that are missing.
 use Rattle.std.proofs.Common.{◌≡◌, ◌≤◌, ◌<◌, ℕ, zero, suc, ◌-◌, min, true, false, eqb, ltb, List, [], ◌∷◌, ◌++◌}
-use Rattle.std.proofs.Common.{take, length, filter, slice_get, unwrap_or, option_map, Option, Some, None, refl, sym, ap, ◌∙◌}
-use Rattle.std.proofs.Common.{arith, append-nil, ap₂, Result, Ok, IsOk, is_ok}
+use Rattle.std.proofs.Common.{take, length, filter, slice_get, refl, sym, ap, ◌∙◌}
+use Rattle.std.proofs.Common.{arith, append-nil, ap₂, Result, Ok}
 use Rattle.std.proofs.lemmas.Bool.{le-ltb, lt-ltb}
 use Rattle.std.proofs.lemmas.List.{append_assoc}
 use Rattle.pad_model.proofs.Newer.{split}
@@ -11,7 +11,6 @@ use Rattle.pad_model.specs.declared.seen.Counted.{Counted}
 use Rattle.pad_model.specs.declared.who.Version.{Version}
 use Rattle.pad_model.specs.declared.who.Version.TheVariants.{One, Two}
 use Rattle.op_log.specs.Log.{is_missing, missing}
-use Rattle.pad_model.specs.OldWire.{op_in_v1}
 use Rattle.pad_core.specs.Batch.{batch_of, fitting, fitting_some, size_of}
 use Rattle.pad_core.specs.Exchange.{can_give, can_read, given, pull_batch, readable, told}
 use Rattle.pad_core.specs.declared.exchange.TheConstants.{MAX_BATCH, MAX_BATCH_BYTES}

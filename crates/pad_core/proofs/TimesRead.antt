@@ -1,5 +1,5 @@
 -- Times at places that go on behind the last one.
-use Rattle.std.proofs.Common.{◌≡◌, ℕ, zero, suc, ◌+◌, ◌≤◌, ◌<◌, List, [], ◌∷◌, length, min, Bool, true, false, refl, sym, ap, ◌∙◌, arith, slice_get, Some, None, ◌++◌, append_assoc, ltb}
+use Rattle.std.proofs.Common.{◌≡◌, ℕ, zero, suc, ◌+◌, ◌≤◌, ◌<◌, List, [], ◌∷◌, length, Bool, true, false, refl, sym, ap, ◌∙◌, arith, slice_get, Some, None, ◌++◌, append_assoc, ltb}
 use Rattle.std.proofs.lemmas.Bool.{ltb-true, ltb-false}
 use Rattle.pad_core.specs.Reads.{places_from, times_at, with_time}
 

@@ -19,6 +19,8 @@ use Rattle.pad_core.specs.Edits.{insert, delete, edit}
 use Rattle.pad_core.specs.Exchange.{read_vector, pull, push}
 use Rattle.named_revisions.specs.declared.named_revision.NamedRevision.{NamedRevision}
 use Rattle.pad_core.specs.Grants.{grant, hand, read_rights}
+use Rattle.guests.specs.declared.guest.Guest.{Guest}
+use Rattle.pad_core.specs.Guests.{introduce, read_guests}
 use Rattle.pad_core.specs.Marks.{mark, read_marks}
 use Rattle.pad_core.specs.Notes.{comment, resolve}
 use Rattle.pad_core.specs.Presence.{join, leave, put_caret, read_who, rejoin}
@@ -80,6 +82,8 @@ need_of (act.Hand author) = Visit right.Own
 need_of act.Rights = Visit right.Read
 need_of (act.Mark rev text) = Visit right.Write
 need_of act.Marks = Visit right.Read
+need_of (act.Introduce display) = Visit right.Read
+need_of act.Guests = Visit right.Read
 need_of act.Vector = PeerSession
 need_of (act.Push op) = PeerSession
 need_of (act.Pull seen max batch) = PeerSession
@@ -152,6 +156,8 @@ pub data Outcome : Type 0 where
   grants : Result PadReply Refusal × Rights → Outcome
   -- which revisions have a name
   names : Result PadReply Refusal × List NamedRevision → Outcome
+  -- what guests call themselves
+  introduces : Result PadReply Refusal × List Guest → Outcome
   -- the log and what is held
   delivers : Result PadReply Refusal × (List Op × List Op) → Outcome
 
@@ -187,6 +193,16 @@ abbrev pub on_marks : Option Owned → Machine → Result PadReply Refusal × Li
     → Result PadReply Refusal × Machine
 on_marks owned m done = (done.0, record m { owned = with_marks owned done.1 })
 
+-- a pad with other display names of its guests, if it has a name itself
+abbrev pub with_guests : Option Owned → List Guest → Option Owned
+with_guests None guests = None
+with_guests (Some owned) guests = Some (record owned { guests = guests })
+
+-- an act by which a guest introduces itself
+abbrev pub on_guests : Option Owned → Machine → Result PadReply Refusal × List Guest
+    → Result PadReply Refusal × Machine
+on_guests owned m done = (done.0, record m { owned = with_guests owned done.1 })
+
 -- an act that changes the log, and with it what is known of when operations were heard of, and what is held
 abbrev pub on_delivery : Machine → Result PadReply Refusal × (List Op × List Op)
     → Result PadReply Refusal × Machine
@@ -206,6 +222,7 @@ applied owned (writes visit done) m = on_log m visit done
 applied owned (visits done) m = on_presence m done
 applied owned (grants done) m = on_rights owned m done
 applied owned (names done) m = on_marks owned m done
+applied owned (introduces done) m = on_guests owned m done
 applied owned (delivers done) m = on_delivery m done
 
 -- what each act of an author comes to
@@ -250,6 +267,9 @@ author_outcome owned name visit (act.Mark rev text) m = names (mark (now_of m) (
   text = text;
 }) owned.marks)
 author_outcome owned name visit act.Marks m = reads (read_marks (now_of m) owned.marks)
+author_outcome owned name visit (act.Introduce display) m = introduces
+    (introduce (now_of m) name display owned.guests)
+author_outcome owned name visit act.Guests m = reads (read_guests (now_of m) owned.guests)
 author_outcome owned name visit other m = reads (Err NotPeer)
 
 -- what each act of a peer comes to
@@ -302,12 +322,13 @@ name_of (Some owned) = Some owned.name
 abbrev pub nobody_present : ℕ → Presence
 nobody_present limit = record { limit = limit; given = 0; present = []; authors = [] }
 
--- what a claim gives a pad: a name and an owner; nobody else has a right, and no revision a name
+-- what a claim gives a pad: a name and an owner; nobody else has a right, no revision a name, and no guest has come
 abbrev pub new_owned : List ℕ → List ℕ → Owned
 new_owned name owner = record {
   name = name;
   rights = record { owner = owner; everyone = None; grants = [] };
   marks = [];
+  guests = [];
 }
 
 -- a claim of a pad for a name and an owner, who is then present

@@ -16,6 +16,9 @@ use Rattle.pad_core.specs.Counts.{vector_of}
 use Rattle.pad_core.specs.Delivered.{delivery_refusal}
 use Rattle.pad_core.specs.Machine.{Machine, claim}
 use Rattle.named_revisions.specs.declared.named_revision.NamedRevision.{NamedRevision}
+use Rattle.guests.specs.Book.{introduce}
+use Rattle.guests.specs.Guests.{is_guest}
+use Rattle.guests.specs.declared.guest.Guest.{Guest}
 use Rattle.pad_core.specs.Marks.{named}
 use Rattle.pad_core.specs.Times.{timed}
 use Rattle.pad_core.specs.declared.owned.Owned.{Owned}
@@ -100,6 +103,23 @@ restore_mark this m = at m.owned
     at (Some owned) =
         if not (is_name this.author) then (Err BadName, m)
         else (let done = marked_again (length m.log) this (Some owned) in
+        (done.0, record m { owned = done.1 }))
+
+-- a guest gets a display name, if the pad has a name
+abbrev pub introduced_again : Guest → Option Owned → Result (Unit {0}) Refusal × Option Owned
+introduced_again guest None = (Err NoPad, None)
+introduced_again guest (Some owned) = let done = introduce guest owned.guests in
+    (done.0, Some (record owned { guests = done.1 }))
+
+-- a guest gets the display name that it had, if its name is a guest's
+abbrev pub restore_introduction : Guest → Machine → Result (Unit {0}) Refusal × Machine
+restore_introduction guest m = at m.owned
+  where
+    at : Option Owned → Result (Unit {0}) Refusal × Machine
+    at None = (Err NoPad, m)
+    at (Some owned) =
+        if not (is_name guest.author && is_guest guest.author) then (Err BadName, m)
+        else (let done = introduced_again guest (Some owned) in
         (done.0, record m { owned = done.1 }))
 
 -- a visit is counted, whose author is known or not

@@ -121,6 +121,12 @@ pub enum Act {
     },
     /// Reads which revisions have a name.
     Marks,
+    /// Gives the guest who asks a display name.
+    Introduce {
+        display: Text,
+    },
+    /// Reads which guests have a display name.
+    Guests,
     /// Reports to a peer how many operations of each origin were delivered.
     Vector,
     /// Takes an operation from a peer.
@@ -216,6 +222,10 @@ impl Clone for Act {
                 text: text.clone()?,
             },
             Act::Marks => Act::Marks,
+            Act::Introduce { display } => Act::Introduce {
+                display: display.clone()?,
+            },
+            Act::Guests => Act::Guests,
             Act::Vector => Act::Vector,
             Act::Push { op } => Act::Push { op: op.clone()? },
             Act::Pull { seen, max, batch } => Act::Pull {

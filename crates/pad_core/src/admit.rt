@@ -44,7 +44,9 @@ pub fn need_of(act: &Act) -> Need
         | Act::Caret { .. }
         | Act::Who
         | Act::Rights
-        | Act::Marks => Need::Visit(Right::Read),
+        | Act::Marks
+        | Act::Introduce { .. }
+        | Act::Guests => Need::Visit(Right::Read),
         Act::Grant { .. } | Act::Hand { .. } => Need::Visit(Right::Own),
         Act::Vector | Act::Push { .. } | Act::Pull { .. } => Need::PeerSession,
     }

@@ -11,6 +11,7 @@ mod enter;
 mod event;
 mod exchange;
 mod grants;
+mod guest_acts;
 mod judge;
 pub mod laws;
 mod ledger;

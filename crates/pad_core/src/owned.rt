@@ -1,4 +1,4 @@
-//! The name, rights and named revisions that a claim gives a pad.
+//! The name and rights that a claim gives a pad, the names of its revisions, and those of its guests.
 ghost use Rattle.std.specs.Prelude.{◌≡◌, ◌+◌, [], Ok, Option, None, Some, MatchResult};
 ghost use Rattle.pad_model.specs.Answers.{Answers};
 ghost use Rattle.presence.specs.Presence.{Presence, joined};
@@ -6,25 +6,27 @@ ghost use Rattle.pad_core.specs.Machine.{new_owned, nobody_present};
 ghost use Rattle.pad_core.specs.declared.owned.Owned.{Owned};
 
 use crate::event::Claim;
+use guests::GuestBook;
 use named_revisions::NamedRevisions;
 use pad_model::{Name, Refusal};
 use presence::PresenceBook;
 use rights::RightsBook;
 use std::alloc::Global;
 
-/// The name of a pad, who may do what with it, and the names of its revisions.
+/// The name of a pad, who may do what with it, the names of its revisions, and the display names of its guests.
 #[derive(Drop)]
 pub struct Owned {
     pub name: Name,
     pub rights: RightsBook,
     pub marks: NamedRevisions,
+    pub guests: GuestBook,
 }
 
 impl Owned {
     pub fn new(alloc: Global, name: &str, owner: &str) -> Result<Owned, Refusal>
         ensures { MatchResult result (λ owned. (owned.name ≡ name.now)
             × (owned.rights ≡ record { owner = owner.now; everyone = None; grants = [] })
-            × (owned.marks ≡ []))
+            × (owned.marks ≡ []) × (owned.guests ≡ []))
             (λ e. e ≡ Refusal.Memory) }
     {
         let name = Name::from_str(alloc, name)?;
@@ -33,6 +35,7 @@ impl Owned {
             name,
             rights: RightsBook::new(alloc, owner),
             marks: NamedRevisions::new(alloc),
+            guests: GuestBook::new(alloc),
         })
     }
 }

@@ -25,6 +25,7 @@ use crate::edit::{delete, edit, insert};
 use crate::event::{Claim, PadEvent};
 use crate::exchange::{pull, read_vector};
 use crate::grants::{grant, hand, read_rights};
+use crate::guest_acts::{introduce, read_guests};
 use crate::ledger::Ledger;
 use crate::marks::{mark, read_marks};
 use crate::note::{comment, resolve};
@@ -35,9 +36,12 @@ use crate::reads::{
     read_text, read_times,
 };
 use crate::reply::{Listed, PadReply};
-use crate::restart::{deliver_again, grant_again, hand_again, mark_again, own_again, visit_again};
+use crate::restart::{
+    deliver_again, grant_again, hand_again, introduce_again, mark_again, own_again, visit_again,
+};
 use crate::visits::{depart, join, leave, put_caret, read_who, rejoin};
 use crate::writer::{Passage, Writer};
+use guests::{Guest, is_guest};
 use holdback::Hold;
 use named_revisions::NamedRevision;
 use op_log::MadeList;
@@ -310,6 +314,19 @@ impl<S: Sequence> Pad<S> {
         mark_again(&mut self.owned, self.ledger.len(), named)
     }
 
+    /// Gives a guest the display name that it had before a restart.
+    pub fn restore_introduction(&mut self, guest: &Guest) -> Result<(), Refusal>
+        ensures { Answers self.old (restart_spec.restore_introduction guest.now self.old) result self.new }
+    {
+        if self.owned.is_none() {
+            return Err(Refusal::NoPad);
+        }
+        if !guest.author.is_well_formed() || !is_guest(&guest.author) {
+            return Err(Refusal::BadName);
+        }
+        introduce_again(&mut self.owned, guest)
+    }
+
     /// Counts a visit that began before a restart. None: its author is not known.
     pub fn restore_visit(&mut self, alloc: Global, author: Option<&Name>) -> Result<(), Refusal>
         ensures { Answers self.old
@@ -497,6 +514,14 @@ impl<S: Sequence> Pad<S> {
             },
             Act::Marks => match &self.owned {
                 Some(owned) => read_marks(alloc, &owned.marks, ledger.len()),
+                None => Err(Refusal::NoPad),
+            },
+            Act::Introduce { display } => match &mut self.owned {
+                Some(owned) => introduce(&mut owned.guests, ledger.len(), name, display),
+                None => Err(Refusal::NoPad),
+            },
+            Act::Guests => match &self.owned {
+                Some(owned) => read_guests(&owned.guests, ledger.len()),
                 None => Err(Refusal::NoPad),
             },
             Act::Vector | Act::Push { .. } | Act::Pull { .. } => Err(Refusal::NotPeer),

@@ -1,5 +1,6 @@
 //! The replies of a pad and of a server.
 use comments::Shown;
+use guests::Guest;
 use named_revisions::NamedRevision;
 use pad_model::{Author, AuthorRun, Items, Name, Op, OpName, Piece, Seen, Text, Version};
 use rights::{Grant, Right};
@@ -166,6 +167,11 @@ pub enum PadReply {
     Marks {
         now: u64,
         marks: Items<NamedRevision>,
+    },
+    /// The guests with a display name, in the order in which they first had one.
+    Guests {
+        now: u64,
+        guests: Items<Guest>,
     },
     /// The number of delivered operations of each origin.
     Vector {

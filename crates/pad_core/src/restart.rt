@@ -3,7 +3,7 @@ ghost use Rattle.std.specs.Prelude.{◌≡◌, ◌≤◌, length, ◌++◌, ◌�
 ghost use Rattle.pad_model.specs.Answers.{Answers};
 ghost use Rattle.presence.specs.Presence.{Presence, counted};
 ghost use Rattle.pad_core.specs.Machine.{new_owned, nobody_present};
-ghost use Rattle.pad_core.specs.Restart.{author_if, delivered_again, granted_again, handed_again, marked_again, visited};
+ghost use Rattle.pad_core.specs.Restart.{author_if, delivered_again, granted_again, handed_again, introduced_again, marked_again, visited};
 ghost use Rattle.pad_core.specs.Restart as restart;
 ghost use Rattle.pad_core.specs.declared.owned.Owned.{Owned};
 
@@ -11,6 +11,7 @@ use crate::append::append;
 use crate::ledger::Ledger;
 use crate::marks::name_revision;
 use crate::owned::Owned;
+use guests::Guest;
 use named_revisions::NamedRevision;
 use op_log::MadeList;
 use pad_model::{Name, Op, OpName, Refusal, Seen, Sequence};
@@ -96,6 +97,16 @@ pub fn mark_again(owned: &mut Option<Owned>, now: u64, named: &NamedRevision) ->
             named.at,
             &named.text,
         ),
+        None => Err(Refusal::NoPad),
+    }
+}
+
+/// Gives a guest its display name, if the pad has a name.
+pub fn introduce_again(owned: &mut Option<Owned>, guest: &Guest) -> Result<(), Refusal>
+    ensures { Answers owned.old (introduced_again guest.now owned.old) result owned.new }
+{
+    match owned {
+        Some(owned) => owned.guests.introduce(&guest.author, &guest.display),
         None => Err(Refusal::NoPad),
     }
 }

@@ -223,6 +223,31 @@ fn an_author_has_the_greater_of_its_right_and_that_of_everyone(
     Ok(play_in_new(&rt, rt.alloc(), FOR_EVERYONE)?)
 }
 
+/// Two guests who came by one link, and one who came by another.
+const GUESTS: &[GrantCase] = &[
+    Grants("guest-aaaaaaaaaaaaa", Some(Comment), Ok(())),
+    May("guest-aaaaaaaaaaaaabbbbbbbbbbbbb", Comment, true),
+    May("guest-aaaaaaaaaaaaabbbbbbbbbbbbb", Write, false),
+    May("guest-aaaaaaaaaaaaaccccccccccccc", Read, true),
+    May("guest-ddddddddddddddddddddddddd2", Read, false),
+    May("guest-aaaaaaaaaaaaabbbbbbbbbbbb", Read, false),
+    Grants("*", Some(Write), Ok(())),
+    May("bob", Write, true),
+    May("guest-aaaaaaaaaaaaabbbbbbbbbbbbb", Write, false),
+    May("guest-ddddddddddddddddddddddddd2", Read, false),
+    Grants("guest-aaaaaaaaaaaaabbbbbbbbbbbbb", Some(Write), Ok(())),
+    May("guest-aaaaaaaaaaaaabbbbbbbbbbbbb", Write, true),
+    May("guest-aaaaaaaaaaaaaccccccccccccc", Write, false),
+    Grants("guest-aaaaaaaaaaaaa", None, Ok(())),
+    May("guest-aaaaaaaaaaaaabbbbbbbbbbbbb", Write, true),
+    May("guest-aaaaaaaaaaaaaccccccccccccc", Read, false),
+];
+
+#[test]
+fn a_guest_has_the_greater_of_its_right_and_that_of_its_link(rt: HostRuntime) -> Result<(), Fail> {
+    Ok(play_in_new(&rt, rt.alloc(), GUESTS)?)
+}
+
 const HANDED: &[GrantCase] = &[
     Grants("bob", Some(Read), Ok(())),
     Grants("cyd", Some(Own), Ok(())),

@@ -1,4 +1,4 @@
-//! Tests of the parts of a pad: its types, the log, author runs, comments, rights, named revisions, held operations, accounts, persons, users of a proxy,
+//! Tests of the parts of a pad: its types, the log, author runs, comments, rights, named revisions, held operations, accounts, persons, users of a proxy, guests,
 //! visits, and the tree and the index of the sequence of blocks.
 #![tactic(auto)]
 
@@ -10,6 +10,10 @@ mod author_runs;
 mod comment_book;
 #[cfg(test)]
 mod grants;
+#[cfg(test)]
+mod guest_book;
+#[cfg(test)]
+mod guest_names;
 #[cfg(test)]
 mod held;
 #[cfg(test)]

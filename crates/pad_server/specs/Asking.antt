@@ -24,6 +24,7 @@ settings_as is_new confirm asked = record {
   user_header = asked.user_header;
   trusted_proxies = asked.trusted_proxies;
   any_user = asked.any_user;
+  guests = asked.guests;
   status = asked.status;
   logs_access = asked.log_access;
 }

@@ -85,6 +85,10 @@ trusted_proxies_rule = option_rule (codes "trusted-proxy")
 abbrev pub any_user_rule : Rule
 any_user_rule = flag_rule (codes "any-user")
 
+-- `--guests`
+abbrev pub guests_rule : Rule
+guests_rule = flag_rule (codes "guests")
+
 -- `--status ADDR`
 abbrev pub status_rule : Rule
 status_rule = option_rule (codes "status")
@@ -121,7 +125,8 @@ line_with_watching = with_rule (with_rule line_with_standby status_rule) log_acc
 
 -- the whole command line, in the terms of clap, which define the words that it accepts and what they give under a name
 abbrev pub line : App
-line = with_rule (with_rule (with_rule line_with_watching user_header_rule) trusted_proxies_rule) any_user_rule
+line = with_rule (with_rule (with_rule (with_rule line_with_watching user_header_rule) trusted_proxies_rule) any_user_rule)
+    guests_rule
 
 -- what the words give: the numbers, the flags and the texts under the names of the options
 pub record AsksFor (words : List (List ℕ)) (asked : ServerArguments) : Type 0 where
@@ -151,4 +156,5 @@ pub record AsksFor (words : List (List ℕ)) (asked : ServerArguments) : Type 0 
   pub trusted_proxies : option_map (λ proxies. proxies.now) asked.trusted_proxies
       ≡ text_given line words (codes "trusted-proxy")
   pub any_user : IsFlag (one_of (codes "any-user") (matches_of line words)) asked.any_user
+  pub guests : IsFlag (one_of (codes "guests") (matches_of line words)) asked.guests
   pub status : option_map (λ address. address.now) asked.status ≡ text_given line words (codes "status")

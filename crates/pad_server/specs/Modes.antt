@@ -4,7 +4,7 @@ use Rattle.std.specs.Option.{is_some}
 use Rattle.std.specs.Borrow.{Bor}
 use Rattle.pad_server.specs.declared.args.ServerArguments.{ServerArguments}
 use Rattle.pad_server.specs.declared.mode.Misuse.{Misuse}
-use Rattle.pad_server.specs.declared.mode.Misuse.TheVariants.{NotOne, NoAccounts, NoStore, NoIdle, NoNewReplica, NoWeb, NoWebOrigins, NoUserHeader, NoTrustedProxies, NoAnyUser, NoClientsPerAddress}
+use Rattle.pad_server.specs.declared.mode.Misuse.TheVariants.{NotOne, NoAccounts, NoStore, NoIdle, NoNewReplica, NoWeb, NoWebOrigins, NoUserHeader, NoTrustedProxies, NoAnyUser, NoGuests, NoClientsPerAddress}
 use Rattle.pad_server.specs.declared.mode.Misuse.TheVariants.{NoStandby, NoCopies, NoConfirm, OwnStandby, ServingStandby, NoStatus}
 use Rattle.pad_server.specs.declared.mode.ServerMode.{ServerMode}
 use Rattle.pad_server.specs.declared.mode.ServerMode.TheVariants.{Stdin, Listen, Standby}
@@ -48,7 +48,7 @@ listening address (Some accounts) asked =
     else serving address accounts asked
 
 -- standard input, without the options that only connections have: a store, a limit of silence, a new replica number, a
--- page, users whom a proxy names, a limit by address, a standby, a status
+-- page, users whom a proxy names, guests, a limit by address, a standby, a status
 abbrev pub reading : ServerArguments → Result ServerMode Misuse
 reading asked =
     if is_some asked.store then Err NoStore
@@ -59,6 +59,7 @@ reading asked =
     else if is_some asked.user_header then Err NoUserHeader
     else if is_some asked.trusted_proxies then Err NoTrustedProxies
     else if asked.any_user then Err NoAnyUser
+    else if asked.guests then Err NoGuests
     else if is_some asked.clients_per_address then Err NoClientsPerAddress
     else if is_some asked.standby || is_some asked.standby_of then Err NoStandby
     else if is_some asked.confirm then Err NoConfirm

@@ -7,10 +7,11 @@ ghost use Rattle.pad_server.specs.CommandLine.{AsksFor, line_with_service, line,
 
 use crate::options::{
     any_user_flag, clients_of, clients_option, clients_per_address_of, clients_per_address_option,
-    confirm_option, connections_of, connections_option, idle_of, idle_option, listen_option,
-    log_access_flag, main_number_of, new_replica_flag, standby_number_of, standby_of_option,
-    standby_option, status_option, stdin_flag, store_option, trusted_proxies_option, unproved_flag,
-    user_header_option, web_option, web_origins_option, workers_of, workers_option,
+    confirm_option, connections_of, connections_option, guests_flag, idle_of, idle_option,
+    listen_option, log_access_flag, main_number_of, new_replica_flag, standby_number_of,
+    standby_of_option, standby_option, status_option, stdin_flag, store_option,
+    trusted_proxies_option, unproved_flag, user_header_option, web_option, web_origins_option,
+    workers_of, workers_option,
 };
 use clap::{Command, Error};
 use command_line::{
@@ -68,6 +69,8 @@ pub struct ServerArguments<'a> {
     pub trusted_proxies: Option<&'a str>,
     /// True if any user whom a proxy names is an author, even one who has no line in the accounts file.
     pub any_user: bool,
+    /// True if guests may log in, who have no line in the accounts file.
+    pub guests: bool,
     /// The address at which operators ask for the status.
     pub status: Option<&'a str>,
 }
@@ -148,14 +151,15 @@ fn with_watching_options<'a>(alloc: Global) -> Result<Command<'a>, AllocError>
         .arg(log_access_flag(alloc))
 }
 
-// Adds the options `--user-header`, `--trusted-proxy` and `--any-user`.
+// Adds the options `--user-header`, `--trusted-proxy`, `--any-user` and `--guests`.
 fn command<'a>(alloc: Global) -> Result<Command<'a>, AllocError>
     ensures { IfOk result (λ command. app_of command ≡ line) }
 {
     with_watching_options(alloc)?
         .arg(user_header_option(alloc))?
         .arg(trusted_proxies_option(alloc))?
-        .arg(any_user_flag(alloc))
+        .arg(any_user_flag(alloc))?
+        .arg(guests_flag(alloc))
 }
 
 /// Parses the words of the command line: returns their arguments, or the error in them.
@@ -192,6 +196,7 @@ pub fn parse<'a>(alloc: Global, words: &'a [String]) -> Result<ServerArguments<'
         user_header: matches.get_str("user-header"),
         trusted_proxies: matches.get_str("trusted-proxy"),
         any_user: matches.get_flag("any-user"),
+        guests: matches.get_flag("guests"),
         status: matches.get_str("status"),
     })
 }

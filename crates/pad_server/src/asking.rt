@@ -32,6 +32,7 @@ impl<'a> ServerArguments<'a> {
             user_header: self.user_header,
             trusted_proxies: self.trusted_proxies,
             any_user: self.any_user,
+            guests: self.guests,
             status: self.status,
             logs_access: self.log_access,
         }

@@ -53,6 +53,8 @@ pub enum Misuse {
     NoTrustedProxies,
     #[error("--any-user needs --user-header <NAME>")]
     NoAnyUser,
+    #[error("--guests needs --listen <ADDR>")]
+    NoGuests,
     #[error("--clients-per-address <N> needs --listen <ADDR>")]
     NoClientsPerAddress,
     #[error("--standby <N> and --standby-of <N> need --listen <ADDR>")]
@@ -71,8 +73,8 @@ pub enum Misuse {
 
 impl<'a> ServerArguments<'a> {
     /// Returns the source of the requests. Exactly one of `--stdin` and `--listen` has to be given: the first without
-    /// `--store`, `--idle`, `--new-replica`, `--web`, `--clients-per-address`, a standby and `--status`, the second
-    /// with `--accounts`. `--web-origin` and `--user-header` are for `--web`, `--trusted-proxy` and `--any-user` for
+    /// `--store`, `--idle`, `--new-replica`, `--web`, `--guests`, `--clients-per-address`, a standby and `--status`, the
+    /// second with `--accounts`. `--web-origin` and `--user-header` are for `--web`, `--trusted-proxy` and `--any-user` for
     /// `--user-header`, and `--confirm` for `--standby`.
     pub fn mode(self) -> Result<ServerMode<'a>, Misuse>
         ensures { result ≡ mode_of self.entry }
@@ -86,6 +88,7 @@ impl<'a> ServerArguments<'a> {
             (true, None) if self.user_header.is_some() => Err(Misuse::NoUserHeader),
             (true, None) if self.trusted_proxies.is_some() => Err(Misuse::NoTrustedProxies),
             (true, None) if self.any_user => Err(Misuse::NoAnyUser),
+            (true, None) if self.guests => Err(Misuse::NoGuests),
             (true, None) if self.clients_per_address.is_some() => Err(Misuse::NoClientsPerAddress),
             (true, None) if self.standby.is_some() || self.standby_of.is_some() => {
                 Err(Misuse::NoStandby)

@@ -2,7 +2,7 @@
 ghost use Rattle.std.specs.Prelude.{◌≡◌, ◌≤◌, ℕ, codes, false, unwrap_or};
 ghost use Rattle.clap.specs.Words.{rule_of};
 ghost use Rattle.command_line.specs.Options.{Holds};
-ghost use Rattle.pad_server.specs.CommandLine.{any_user_rule, clients_per_address_rule, clients_rule, confirm_rule, connections_rule, idle_rule, listen_rule, log_access_rule, new_replica_rule, standby_of_rule, standby_rule, status_rule, stdin_rule, store_rule, trusted_proxies_rule, unproved_rule, user_header_rule, web_origins_rule, web_rule, workers_rule};
+ghost use Rattle.pad_server.specs.CommandLine.{any_user_rule, clients_per_address_rule, clients_rule, confirm_rule, connections_rule, guests_rule, idle_rule, listen_rule, log_access_rule, new_replica_rule, standby_of_rule, standby_rule, status_rule, stdin_rule, store_rule, trusted_proxies_rule, unproved_rule, user_header_rule, web_origins_rule, web_rule, workers_rule};
 
 use clap::{Arg, ArgAction, ArgMatches, value_parser};
 use std::alloc::Global;
@@ -206,6 +206,18 @@ pub fn any_user_flag<'a>(alloc: Global) -> Arg<'a>
         .action(ArgAction::SetTrue)
         .help(
             "Makes whoever the proxy names an author, also without a line in the accounts file, under a name that is made from the user's",
+        )
+}
+
+/// `--guests`.
+pub fn guests_flag<'a>(alloc: Global) -> Arg<'a>
+    ensures { (rule_of result ≡ guests_rule) × (result.global ≡ false) }
+{
+    Arg::new(alloc, "guests")
+        .long("guests")
+        .action(ArgAction::SetTrue)
+        .help(
+            "Lets those who have a pad's link work on it as guests, without a line in the accounts file",
         )
 }
 

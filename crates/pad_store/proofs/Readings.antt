@@ -24,7 +24,7 @@ use Rattle.store_format.specs.Files.{Read, pad_read}
 use Rattle.store_format.specs.declared.reader.Damage.{Damage}
 use Rattle.store_format.specs.declared.reader.Damage.TheVariants as damage
 use Rattle.pad_store.specs.Choices.{number_of}
-use Rattle.pad_store.specs.Reading.{IsFault, IsNoDamage, IsTold, LeadTo, Shows, trouble_after}
+use Rattle.pad_store.specs.Reading.{IsFault, IsNoDamage, IsTold, LeadTo, Shows, ShowsOf, trouble_after}
 use Rattle.pad_store.specs.declared.inspected_pad.InspectedPad.{InspectedPad}
 use Rattle.pad_store.specs.declared.revision_choice.RevisionChoice.{RevisionChoice}
 use Rattle.pad_store.specs.declared.trouble.Trouble.{Trouble}
@@ -203,14 +203,27 @@ begins bytes log times (Ok book) lead begun =
     (subst (λ (l : List Op). LeadTo bytes l times) (sym begun.0) lead)
 begins bytes log times (Err t) lead begun = faultless bytes t begun
 
--- a text of the log that they lead to is shown
-pub shows : (bytes : List ℕ) (asked : RevisionChoice) (log later : List Op) (times : List ℕ) (rev : ℕ)
-    (shown text : List ℕ) → LeadTo bytes log times → rev ≡ number_of asked log times → later ≡ log →
+-- a text of a log is shown
+pub shows_of : (asked : RevisionChoice) (log later : List Op) (times : List ℕ) (rev : ℕ) (shown text : List ℕ) →
+    rev ≡ number_of asked log times → later ≡ log →
     ((at : ℕ) × (read_text (Some rev) later ≡ Ok (Text (length later) at shown))) → text ≡ encode_utf8_all shown →
-    Shows bytes asked text
-unfolding Shows
-shows bytes asked log later times rev shown text lead number kept told is =
+    ShowsOf log times asked text
+unfolding ShowsOf
+shows_of asked log later times rev shown text number kept told is =
     let same : read_text (Some (number_of asked log times)) log ≡ Ok (Text (length log) told.0 shown) =
     subst (λ (n : ℕ). read_text (Some n) log ≡ Ok (Text (length log) told.0 shown)) number
     (subst (λ (l : List Op). read_text (Some rev) l ≡ Ok (Text (length l) told.0 shown)) kept told.1) in
-    (log, times, lead, told.0, shown, same, is)
+    (told.0, shown, same, is)
+
+-- so is a text of the log that the bytes of a file lead to
+pub shows : {A : Type 0} (bytes : List ℕ) (asked : RevisionChoice) (log : List Op) (times : List ℕ)
+    (bytes_of : A → List ℕ) (r : Result A Trouble) → LeadTo bytes log times →
+    IfOk r (λ a. ShowsOf log times asked (bytes_of a)) → IfOk r (λ a. Shows bytes asked (bytes_of a))
+unfolding Shows
+shows bytes asked log times bytes_of (Ok a) lead told = (log, times, lead, told)
+shows bytes asked log times bytes_of (Err t) lead told = tt
+
+-- if an answer reports no damage, it reports none wrongly
+pub faults : {A : Type 0} (bytes : List ℕ) (r : Result A Trouble) → IfErr r IsNoDamage → IfErr r (λ t. IsFault bytes t)
+faults bytes (Ok a) none = tt
+faults bytes (Err t) none = faultless bytes t none

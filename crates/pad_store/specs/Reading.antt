@@ -23,11 +23,15 @@ unfoldable pub LeadTo : List ℕ → List Op → List ℕ → Type 0
 LeadTo bytes log times = (name : List ℕ) × (read : Read)
     × (pad_read 1 DEFAULT_PRESENT name bytes ≡ Ok read) × (log ≡ read.pad.log) × (times ≡ read.pad.made.times)
 
--- a text in UTF-8 is that of the revision that is asked for, of the pad that the bytes of a file lead to
-unfoldable pub Shows : List ℕ → RevisionChoice → List ℕ → Type 0
-Shows bytes asked text = (log : List Op) × (times : List ℕ) × LeadTo bytes log times × (at : ℕ) × (shown : List ℕ)
+-- a text in UTF-8 is that of the revision that is asked for, of a log with these times
+unfoldable pub ShowsOf : List Op → List ℕ → RevisionChoice → List ℕ → Type 0
+ShowsOf log times asked text = (at : ℕ) × (shown : List ℕ)
     × (read_text (Some (number_of asked log times)) log ≡ Ok (Text (length log) at shown))
     × (text ≡ encode_utf8_all shown)
+
+-- it is that of the pad that the bytes of a file lead to
+unfoldable pub Shows : List ℕ → RevisionChoice → List ℕ → Type 0
+Shows bytes asked text = (log : List Op) × (times : List ℕ) × LeadTo bytes log times × ShowsOf log times asked text
 
 -- the trouble that a refusal of a pad means
 abbrev pub trouble_of : Refusal → Trouble

@@ -211,17 +211,32 @@ fn compare_with<'a, R: Runtime<A = Global>, W: Write>(
     counts: &mut BeyondCounts,
     out: &mut W,
 ) -> Result<(), StoreFailure<'a>> {
-    let mut book = match InspectedPad::read(rt.alloc(), bytes) {
-        Ok(book) => book,
-        Err(trouble) => return Err(StoreFailure::of_pad(path, trouble)),
-    };
+    match InspectedPad::read(rt.alloc(), bytes) {
+        Ok(mut book) => compare_book(rt, path, &mut book, bytes, news, counts, out),
+        Err(trouble) => Err(StoreFailure::of_pad(path, trouble)),
+    }
+}
+
+// Prints the lines that the older file, which leads to this pad, has beyond those of the newer one.
+fn compare_book<'a, R: Runtime<A = Global>, W: Write>(
+    rt: &R,
+    path: &'a str,
+    book: &mut InspectedPad,
+    bytes: &[u8],
+    news: &[&[u8]],
+    counts: &mut BeyondCounts,
+    out: &mut W,
+) -> Result<(), StoreFailure<'a>> {
     let olds = whole_lines(rt.alloc(), front(bytes, book.whole))?;
-    put_beyond(rt, path, &mut book, olds.as_slice(), news, counts, out)
+    put_beyond(rt, path, book, olds.as_slice(), news, counts, out)
 }
 
 // The number of bytes of the whole lines of a file whose pad can be read.
 fn length_of(alloc: Global, bytes: &[u8]) -> Result<u64, Trouble> {
-    Ok(InspectedPad::read(alloc, bytes)?.whole)
+    match InspectedPad::read(alloc, bytes) {
+        Ok(book) => Ok(book.whole),
+        Err(trouble) => Err(trouble),
+    }
 }
 
 // The first bytes of a file.

@@ -19,13 +19,26 @@ pub fn diff(
     coloured: bool,
 ) -> Result<Option<String>, Trouble> {
     let marks = coloured_marks(alloc, coloured)?;
-    let mut book = InspectedPad::read(alloc, bytes)?;
+    match InspectedPad::read(alloc, bytes) {
+        Ok(mut book) => diff_of(alloc, &mut book, rev, to, &marks),
+        Err(trouble) => Err(trouble),
+    }
+}
+
+// The same of a file's pad.
+fn diff_of(
+    alloc: Global,
+    book: &mut InspectedPad,
+    rev: RevisionChoice,
+    to: RevisionChoice,
+    marks: &Marks,
+) -> Result<Option<String>, Trouble> {
     let rev = book.number_of(alloc, rev)?;
     let to = book.number_of(alloc, to)?;
     if to < rev {
         return Ok(None);
     }
-    let shown = compared(alloc, &mut book, rev, to, &marks)?;
+    let shown = compared(alloc, book, rev, to, marks)?;
     match shown.to_string(alloc) {
         Ok(text) => Ok(Some(text)),
         Err(_) => Err(Trouble::Memory),

@@ -26,7 +26,18 @@ pub fn export<'a, R: Runtime<A = Global>, W: Write>(
 
 // The number of the revision that is asked for, of a file's pad, and the number of bytes of its whole lines.
 fn read(alloc: Global, bytes: &[u8], asked: RevisionChoice) -> Result<(u64, usize), Trouble> {
-    let mut book = InspectedPad::read(alloc, bytes)?;
+    match InspectedPad::read(alloc, bytes) {
+        Ok(mut book) => last_of(alloc, &mut book, asked),
+        Err(trouble) => Err(trouble),
+    }
+}
+
+// The same of a file's pad.
+fn last_of(
+    alloc: Global,
+    book: &mut InspectedPad,
+    asked: RevisionChoice,
+) -> Result<(u64, usize), Trouble> {
     let last = book.number_of(alloc, asked)?;
     if book.revision() < last {
         return Err(Trouble::NoRevision);

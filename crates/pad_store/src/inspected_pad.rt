@@ -11,6 +11,7 @@ use crate::revision_choice::RevisionChoice;
 use crate::trouble::Trouble;
 use block_seq::BlockSeq;
 use comments::Shown;
+use guests::Guest;
 use pad_core::{Act, Pad, PadEvent, PadReply};
 use pad_model::{AuthorRun, Items, Name, Piece, Text, Who};
 use presence::DEFAULT_PRESENT;
@@ -149,6 +150,14 @@ impl InspectedPad {
         }
     }
 
+    /// The guests that have a display name, in the order in which they first had one.
+    pub fn guests(&mut self, alloc: Global) -> Result<Items<Guest>, Trouble> {
+        match self.ask(alloc, &Act::Guests)? {
+            PadReply::Guests { guests, .. } => Ok(guests),
+            _ => Err(Trouble::Unread),
+        }
+    }
+
     /// The number of characters of the present revision.
     pub fn length(&mut self, alloc: Global) -> Result<u64, Trouble> {
         match self.ask(alloc, &Act::Revs)? {
@@ -199,7 +208,7 @@ fn load_pad(alloc: Global, name: &str, bytes: &[u8]) -> Result<Loaded<BlockSeq>,
 // Lets the owner join the pad that was loaded from these bytes.
 fn begin(
     alloc: Global,
-    mut loaded: Loaded<BlockSeq>,
+    loaded: Loaded<BlockSeq>,
     name: Name,
     bytes: &[u8],
 ) -> Result<InspectedPad, Trouble>
@@ -207,20 +216,34 @@ fn begin(
         × (book.pad.made.times ≡ loaded.pad.made.times)) IsNoDamage }
 {
     let whole = bytes.len().min(loaded.whole as usize);
-    let owner = match owner_in(alloc, &bytes[..whole]) {
-        Ok(owner) => Who::Author(owner),
-        Err(_) => return Err(Trouble::Memory),
-    };
-    let visit = join(alloc, &mut loaded.pad, name.as_str(), &owner)?;
-    Ok(InspectedPad {
-        pad: loaded.pad,
-        name,
-        owner,
-        visit,
-        sum: loaded.sum,
-        whole: loaded.whole,
-        cut: loaded.cut,
-    })
+    match owner_in(alloc, &bytes[..whole]) {
+        Ok(owner) => enter(alloc, loaded, name, Who::Author(owner)),
+        Err(_) => Err(Trouble::Memory),
+    }
+}
+
+// The same for the owner with this name.
+fn enter(
+    alloc: Global,
+    mut loaded: Loaded<BlockSeq>,
+    name: Name,
+    owner: Who,
+) -> Result<InspectedPad, Trouble>
+    ensures { MatchResult result (λ book. (book.pad.log ≡ loaded.pad.log)
+        × (book.pad.made.times ≡ loaded.pad.made.times)) IsNoDamage }
+{
+    match join(alloc, &mut loaded.pad, name.as_str(), &owner) {
+        Ok(visit) => Ok(InspectedPad {
+            pad: loaded.pad,
+            name,
+            owner,
+            visit,
+            sum: loaded.sum,
+            whole: loaded.whole,
+            cut: loaded.cut,
+        }),
+        Err(trouble) => Err(trouble),
+    }
 }
 
 // Lets an author join a pad, and returns the visit.

@@ -65,6 +65,10 @@ fn line_with(
             format!(in alloc; "- {time} - owner {}\n", author.as_str())
         }
         StoreLine::Record(Record::Marked { named }) => named_line(alloc, named),
+        StoreLine::Record(Record::Introduced { guest }) => {
+            let display = quoted(alloc, guest.display.as_slice())?;
+            format!(in alloc; "- {time} {} guest {display}\n", guest.author.as_str())
+        }
         StoreLine::Record(Record::Visited { author }) => {
             let author = match author {
                 Some(author) => author.as_str(),

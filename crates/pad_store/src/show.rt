@@ -1,6 +1,6 @@
 //! The text of a file's pad.
 ghost use Rattle.std.specs.Prelude.{IfOk, IfErr, string_bytes};
-ghost use Rattle.pad_store.specs.Reading.{IsFault, Shows};
+ghost use Rattle.pad_store.specs.Reading.{IsFault, IsNoDamage, Shows, ShowsOf};
 
 use crate::inspected_pad::InspectedPad;
 use crate::revision_choice::RevisionChoice;
@@ -12,18 +12,19 @@ pub fn show(alloc: Global, bytes: &[u8], asked: RevisionChoice) -> Result<String
     ensures shown { IfOk result (λ text. Shows bytes.now asked (string_bytes text)) }
     ensures fault { IfErr result (λ trouble. IsFault bytes.now trouble) }
 {
-    let mut book = match InspectedPad::read(alloc, bytes) {
-        Ok(book) => book,
-        Err(trouble) => return Err(trouble),
-    };
-    let rev = match book.number_of(alloc, asked) {
-        Ok(rev) => rev,
-        Err(trouble) => return Err(trouble),
-    };
-    let text = match book.text(alloc, Some(rev)) {
-        Ok(text) => text,
-        Err(trouble) => return Err(trouble),
-    };
+    match InspectedPad::read(alloc, bytes) {
+        Ok(mut book) => text_at(alloc, &mut book, asked),
+        Err(trouble) => Err(trouble),
+    }
+}
+
+// The text of the revision that is asked for, of a file's pad.
+fn text_at(alloc: Global, book: &mut InspectedPad, asked: RevisionChoice) -> Result<String, Trouble>
+    ensures shown { IfOk result (λ text. ShowsOf book.old.pad.log book.old.pad.made.times asked (string_bytes text)) }
+    ensures fault { IfErr result IsNoDamage }
+{
+    let rev = book.number_of(alloc, asked)?;
+    let text = book.text(alloc, Some(rev))?;
     match text.to_string(alloc) {
         Ok(text) => Ok(text),
         Err(_) => Err(Trouble::Memory),

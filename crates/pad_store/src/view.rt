@@ -4,6 +4,7 @@ use crate::pieces::{quoted, split};
 use crate::revision_choice::RevisionChoice;
 use crate::trouble::Trouble;
 use comments::Shown;
+use guests::Guest;
 use pad_model::{AuthorRun, Items, Text};
 use std::alloc::{AllocError, Global};
 use std::fmt::Write;
@@ -31,12 +32,20 @@ pub fn viewed(
     view: View,
 ) -> Result<String, Trouble> {
     match InspectedPad::read(alloc, bytes) {
-        Ok(mut book) => {
-            let at = book.number_of(alloc, asked)?;
-            view_of(alloc, &mut book, at, view)
-        }
+        Ok(mut book) => view_at(alloc, &mut book, asked, view),
         Err(trouble) => Err(trouble),
     }
+}
+
+// The revision that is asked for, of a file's pad, as a view shows it.
+fn view_at(
+    alloc: Global,
+    book: &mut InspectedPad,
+    asked: RevisionChoice,
+    view: View,
+) -> Result<String, Trouble> {
+    let at = book.number_of(alloc, asked)?;
+    view_of(alloc, book, at, view)
 }
 
 // A revision of a file's pad as a view shows it.
@@ -53,6 +62,10 @@ fn view_of(alloc: Global, book: &mut InspectedPad, at: u64, view: View) -> Resul
     }
     if view.comments {
         put_notes(alloc, &mut out, book, at, &text, view.markdown)?;
+    }
+    if view.authors || view.comments {
+        let guests = book.guests(alloc)?;
+        put_guests(alloc, &mut out, &guests, view.markdown)?;
     }
     Ok(out)
 }
@@ -117,6 +130,26 @@ fn put_runs(
         let origin = run.author.origin;
         out.push_str(format!(in alloc; "{mark}{name}@{origin} {words}\n")?.as_str())?;
         rest = behind;
+    }
+    Ok(())
+}
+
+// Adds the display names of guests, if any have one: an empty line, and then a line for each.
+fn put_guests(
+    alloc: Global,
+    out: &mut String,
+    guests: &Items<Guest>,
+    markdown: bool,
+) -> Result<(), AllocError> {
+    if guests.is_empty() {
+        return Ok(());
+    }
+    let mark = if markdown { "- " } else { "" };
+    out.push_str(if markdown { "\n## Guests\n\n" } else { "\n" })?;
+    for guest in guests.as_slice() {
+        let name = guest.author.as_str();
+        let display = quoted(alloc, guest.display.as_slice())?;
+        out.push_str(format!(in alloc; "{mark}{name} {display}\n")?.as_str())?;
     }
     Ok(())
 }

@@ -1,6 +1,6 @@
 -- What the crates above need to know about names with rights.
 use Rattle.std.proofs.Common.{◌≡◌, ◌⊎◌, inl, inr, ℕ, Bool, true, false, cond, List, [], ◌∷◌, Option, Some, None}
-use Rattle.std.proofs.Common.{Result, Ok, Err, sym, ap, ◌∙◌, subst}
+use Rattle.std.proofs.Common.{Result, Ok, Err, refl, sym, ap, ◌∙◌, subst}
 use Rattle.std.specs.Prelude.{IsTrue}
 use Rattle.std.proofs.lemmas.Bool.{true≢false}
 use Rattle.std.proofs.lemmas.Slice.Eq.{bytes_eq-Decides}
@@ -12,7 +12,7 @@ use Rattle.pad_model.specs.Checked.{is_name}
 use Rattle.pad_model.specs.declared.refusal.Refusal.{Refusal}
 use Rattle.pad_model.specs.declared.refusal.Refusal.TheVariants.{OwnerKept, GrantsFull}
 use Rattle.pad_model.proofs.Newer.{split}
-use Rattle.rights.specs.Rights.{Rights, as_everyone, can_have, changed, covers, grant, granted, greater, hand, is_full, may}
+use Rattle.rights.specs.Rights.{Rights, can_have, changed, covers, grant, granted, greater, hand, is_full, may, shared}
 use Rattle.rights.specs.declared.grantee.Grantee.{Grantee}
 use Rattle.rights.specs.declared.grantee.Grantee.TheVariants.{Author, Everyone}
 use Rattle.rights.specs.declared.right.Right.{Right}
@@ -36,12 +36,11 @@ greater_either held (Some right) least e =
     (λ more. inl (sym (ap (λ b. covers (cond b held (Some right)) least) more) ∙ e))
     (λ less. inr (sym (ap (λ b. covers (cond b held (Some right)) least) less) ∙ e))
 
-everyone_named : (right : Option Right) (name : List ℕ) (least : Right) → covers (as_everyone right name) least ≡ true →
+shared_named : (book : Rights) (name : List ℕ) (least : Right) → covers (shared book name) least ≡ true →
     is_name name ≡ true
-everyone_named None name least e = absurd (true≢false (sym e))
-everyone_named (Some right) name least e =
+shared_named book name least e =
     split (is_name name) (λ named. named)
-    (λ other. absurd (true≢false (sym e ∙ ap (λ b. covers (cond b (Some right) None) least) other)))
+    (λ other. absurd (true≢false (sym e ∙ rw other refl)))
 
 -- what holds for the owner's name, for each granted one and for each that an author can have holds for every name with
 -- a right
@@ -50,14 +49,14 @@ pub may_has : (P : List ℕ → Type 0) (book : Rights) (name : List ℕ) (least
 may_has P book name least owner grants named e =
     split (bytes_eq name book.owner)
     (λ same. subst P (sym ((bytes_eq-Decides name book.owner).0 same)) owner)
-    (λ other. at (greater_either (granted book.grants name) (as_everyone book.everyone name) least
+    (λ other. at (greater_either (granted book.grants name) (shared book name) least
     (sym (ap (λ b. covers (cond b (Some Own) (greater (granted book.grants name)
-    (as_everyone book.everyone name))) least) other) ∙ e)))
+    (shared book name))) least) other) ∙ e)))
   where
     at : (covers (granted book.grants name) least ≡ true)
-        ⊎ (covers (as_everyone book.everyone name) least ≡ true) → P name
+        ⊎ (covers (shared book name) least ≡ true) → P name
     at (inl own) = found_has P book.grants name least grants own
-    at (inr all) = named (everyone_named book.everyone name least all)
+    at (inr all) = named (shared_named book name least all)
 
 removed_case : (P : List ℕ → Type 0) (b : Bool) (x : List ℕ × Right) (grants rest : List (List ℕ × Right)) →
     AllByRecursion (λ e. P e.0) (x ∷ grants) → AllByRecursion (λ e. P e.0) rest → AllByRecursion (λ e. P e.0)

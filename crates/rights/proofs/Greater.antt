@@ -1,15 +1,17 @@
 -- The greater of two rights.
-use Rattle.std.proofs.Common.{◌≡◌, ℕ, Bool, true, false, ◌||◌, nat_le, bytes_eq, List, Option, Some, None, refl, sym, arith, ◌∙◌}
+use Rattle.std.proofs.Common.{◌≡◌, ℕ, true, false, ◌||◌, nat_le, List, Option, Some, None, refl, sym, arith, ◌∙◌}
 use Rattle.std.proofs.Common.{le-leb, leb-false}
 use Rattle.std.proofs.lemmas.Bool.{leb-true, true≢false}
 use Rattle.pad_model.proofs.Newer.{split}
 use Rattle.pad_model.specs.Checked.{is_name}
-use Rattle.rights.specs.Laws.{EitherLaw, UnsharedLaw}
-use Rattle.rights.specs.Rights.{Rights, as_everyone, covers, granted, greater, may, rank}
+use Rattle.guests.specs.Guests.{is_guest, link_of}
+use Rattle.rights.specs.Laws.{EitherLaw, GuestLaw, UnsharedLaw}
+use Rattle.rights.specs.Rights.{Rights, covers, granted, greater, rank, shared}
 use Rattle.rights.specs.declared.right.Right.{Right}
 
 pub unshared : UnsharedLaw
-unshared book name e = rw e refl
+unshared book name none other =
+    split (is_name name) (λ named. rw (named, other, none) refl) (λ unnamed. rw unnamed refl)
 
 -- the greater of two rights includes exactly what one of them does
 greater_or : (held other : Option Right) (least : Right) →
@@ -37,12 +39,20 @@ greater_or (Some held) (Some other) least =
     either e less = le-leb (rank least) (rank other)
         (omega (arith, leb-true (rank least) (rank held) e, leb-false (rank other) (rank held) less))
 
-named_covers : (everyone : Option Right) (name : List ℕ) (least : Right) → is_name name ≡ true →
-    covers (as_everyone everyone name) least ≡ covers everyone least
-named_covers None name least e = refl
-named_covers (Some right) name least e = rw e refl
+everyones : (book : Rights) (name : List ℕ) → is_name name ≡ true → is_guest name ≡ false →
+    shared book name ≡ book.everyone
+everyones book name named other = rw (named, other) refl
+
+links : (book : Rights) (name : List ℕ) → is_name name ≡ true → is_guest name ≡ true →
+    shared book name ≡ granted book.grants (link_of name)
+links book name named guest = rw (named, guest) refl
 
 pub either_allows : EitherLaw
-either_allows book name right other named =
-    rw other (greater_or (granted book.grants name) (as_everyone book.everyone name) right
-    ∙ rw (named_covers book.everyone name right named) refl)
+either_allows book name right other named own =
+    rw other (greater_or (granted book.grants name) (shared book name) right
+    ∙ rw (everyones book name named own) refl)
+
+pub guest_allows : GuestLaw
+guest_allows book name right other named guest =
+    rw other (greater_or (granted book.grants name) (shared book name) right
+    ∙ rw (links book name named guest) refl)

@@ -3,6 +3,7 @@ use Rattle.std.specs.Prelude.{ℕ, ◌+◌, ◌<◌, Bool, true, false, not, ◌
 use Rattle.std.specs.Prelude.{length, map}
 use Rattle.std.specs.Prelude.{is_some, Option, Some, None, Result, Ok, Err, bytes_eq}
 use Rattle.std.specs.Map.{lookup, remove_entry}
+use Rattle.guests.specs.Guests.{is_guest, link_of}
 use Rattle.indexmap.specs.IndexMap.{insert_entry}
 use Rattle.pad_model.specs.Checked.{is_name}
 use Rattle.pad_model.specs.declared.refusal.Refusal.{Refusal}
@@ -45,15 +46,18 @@ abbrev pub greater : Option Right → Option Right → Option Right
 greater held None = held
 greater held (Some other) = if covers held other then held else Some other
 
--- the right that a name has as everyone has it, if an author can have the name
-abbrev pub as_everyone : Option Right → List ℕ → Option Right
-as_everyone None name = None
-as_everyone (Some right) name = if is_name name then Some right else None
+-- the right that a name shares with others, if an author can have the name: a guest's is what its link was granted, and any
+-- other's what everyone was
+abbrev pub shared : Rights → List ℕ → Option Right
+shared book name =
+    if not (is_name name) then None
+    else if is_guest name then granted book.grants (link_of name)
+    else book.everyone
 
--- the right of a name: the owner has Own, and any other name the greater of what it and what everyone was granted
+-- the right of a name: the owner has Own, and any other name the greater of what it was granted and what it shares
 abbrev pub right_of : Rights → List ℕ → Option Right
 right_of book name = if bytes_eq name book.owner then Some Own
-    else greater (granted book.grants name) (as_everyone book.everyone name)
+    else greater (granted book.grants name) (shared book name)
 
 -- whether a name may do what a right allows
 abbrev pub may : Rights → List ℕ → Right → Bool

@@ -1,11 +1,13 @@
 ghost use Rattle.std.specs.Prelude.{◌≡◌, ◌+◌, ◌&&◌, not, nat_le, is_some, length, [], ◌∷◌, None, IfOk, MatchResult, bytes_eq};
+ghost use Rattle.guests.specs.Guests.{link_of};
 ghost use Rattle.pad_model.specs.Answers.{Answers};
 ghost use Rattle.rights.specs.declared.book.TheConstants.{MAX_GRANTS};
 ghost use Rattle.rights.specs.declared.grantee.Grantee.TheVariants.{Author};
-ghost use Rattle.rights.specs.Rights.{as_everyone, everyone_listed, grant, granted, greater, hand, listed, may, right_of};
+ghost use Rattle.rights.specs.Rights.{everyone_listed, grant, granted, greater, hand, listed, may, right_of, shared};
 
 use crate::grantee::Grantee;
 use crate::right::Right;
+use guests::{is_guest, is_link_of};
 use indexmap::IndexMap;
 use pad_model::{Items, Name, Refusal};
 use std::alloc::{AllocError, Global};
@@ -74,27 +76,42 @@ impl RightsBook {
         }
     }
 
-    /// The right of an author, or None: `Own` for the owner, and otherwise the greater of what was granted to the
-    /// author and to everyone. A right includes those before it, so every right includes `Read`.
+    /// The right of an author, or None: `Own` for the owner, and otherwise the greater of what was granted to the author and of
+    /// what it shares: a guest the right of its link, any other that of everyone. A right includes those before it, so every
+    /// right includes `Read`.
     pub fn right_of(&self, name: &Name) -> Option<Right>
         ensures { result ≡ right_of self.now name.now }
     {
         if *name == self.owner {
             return Some(Right::Own);
         }
-        greater(self.grants.get(name).copied(), self.as_everyone(name))
+        greater(self.grants.get(name).copied(), self.shared(name))
     }
 
-    /// The right that a name has as everyone has it, or None. Only a name that an author can have has one.
-    fn as_everyone(&self, name: &Name) -> Option<Right>
-        ensures { result ≡ as_everyone self.now.everyone name.now }
+    /// The right that a name shares with others, or None. Only a name that an author can have shares one.
+    fn shared(&self, name: &Name) -> Option<Right>
+        ensures { result ≡ shared self.now name.now }
     {
-        let right = self.everyone?;
-        if name.is_well_formed() {
-            Some(right)
-        } else {
-            None
+        if !name.is_well_formed() {
+            return None;
         }
+        if is_guest(name) {
+            self.right_of_link(name)
+        } else {
+            self.everyone
+        }
+    }
+
+    /// The right that the link of a guest was granted.
+    fn right_of_link(&self, guest: &Name) -> Option<Right>
+        ensures { result ≡ granted self.now.grants (link_of guest.now) }
+    {
+        for (name, right) in self.grants.iter() {
+            if is_link_of(name, guest) {
+                return Some(*right);
+            }
+        }
+        None
     }
 
     /// Sets the right of an author or of everyone, in place of an earlier one, or revokes it (None).

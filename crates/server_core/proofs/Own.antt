@@ -13,7 +13,7 @@ use Rattle.sessions.specs.Session.{is_of}
 use Rattle.sessions.specs.declared.session.Room.{Room}
 use Rattle.pad_core.specs.Machine.{Machine, Outcome, applied, author_act, author_outcome, author_refusal, author_step}
 use Rattle.pad_core.specs.Machine.{name_of, peer_act, peer_outcome, session_step, step}
-use Rattle.pad_core.specs.Machine.Outcome.{reads, writes, visits, grants, names, delivers}
+use Rattle.pad_core.specs.Machine.Outcome.{reads, writes, visits, grants, names, introduces, delivers}
 use Rattle.pad_core.specs.declared.act.Act.{Act}
 use Rattle.pad_core.specs.declared.act.Act.TheVariants as act
 use Rattle.pad_core.specs.declared.owned.Owned.{Owned}
@@ -30,7 +30,9 @@ outcome-name o (visits done) m h = h
 outcome-name None (grants done) m h = refl
 outcome-name (Some owned) (grants done) m h = refl
 outcome-name None (names done) m h = refl
+outcome-name None (introduces done) m h = refl
 outcome-name (Some owned) (names done) m h = refl
+outcome-name (Some owned) (introduces done) m h = refl
 outcome-name o (delivers done) m h = h
 
 peer-name : (version : Version) (m : Machine) (a : Act) → name_of (peer_act version a m).1.owned ≡ name_of m.owned

@@ -1,10 +1,11 @@
 -- How a session becomes an author's or a peer's, and what a request requires of its session.
 use Rattle.std.specs.Prelude.{ℕ, Bool, true, false, not, ◌&&◌, nat_lt, if◌then◌else◌, List, [], ◌∷◌, ◌++◌, fold}
 use Rattle.std.specs.Prelude.{Option, Some, None, Result, Ok, Err}
+use Rattle.guests.specs.Guests.{is_guest}
 use Rattle.pad_model.specs.Checked.{is_name, is_within}
 use Rattle.pad_model.specs.declared.limits.TheConstants.{MAX_REPLICA, OLD_REPLICA}
 use Rattle.pad_model.specs.declared.refusal.Refusal.{Refusal}
-use Rattle.pad_model.specs.declared.refusal.Refusal.TheVariants.{NoSession, BadToken, HaveSession, BadName, OldPeer}
+use Rattle.pad_model.specs.declared.refusal.Refusal.TheVariants.{NoSession, BadToken, HaveSession, BadName, OldPeer, Denied}
 use Rattle.pad_model.specs.declared.who.Version.{Version}
 use Rattle.pad_model.specs.declared.who.Version.TheVariants.{One, Two}
 use Rattle.pad_model.specs.declared.who.Who.{Who}
@@ -26,6 +27,11 @@ is_nobody other = false
 abbrev pub is_of_author : Who → Bool
 is_of_author (who.Author name) = true
 is_of_author other = false
+
+-- whether a session is a guest's
+abbrev pub is_of_guest : Who → Bool
+is_of_guest (who.Author name) = is_guest name
+is_of_guest other = false
 
 -- a log-in of an author, who needs a name that an author can have and its token
 abbrev pub hello : ℕ → Accounts → List ℕ → List ℕ → Who → Result Reply Refusal × Who
@@ -72,8 +78,10 @@ relay replica number old = if not (is_nobody old) then (Err HaveSession, old)
 
 -- the reason to refuse a creation before any cell is visited, if there is one
 abbrev pub create_refusal : Who → List ℕ → Option Refusal
-create_refusal who pad = if not (is_of_author who) then Some NoSession else if not (is_name pad)
-    then Some BadName
+create_refusal who pad =
+    if not (is_of_author who) then Some NoSession
+    else if not (is_name pad) then Some BadName
+    else if is_of_guest who then Some Denied
     else None
 
 -- the reason to refuse a list of pads, if there is one

@@ -1,9 +1,10 @@
 //! Makes a session an author's or a peer's, and checks the session that a request requires.
 ghost use Rattle.std.specs.Prelude.{◌≡◌, MatchResult};
 ghost use Rattle.pad_model.specs.Answers.{Answers};
-ghost use Rattle.server_core.specs.Opening.{is_nobody, is_of_author, is_unsayable};
+ghost use Rattle.server_core.specs.Opening.{is_nobody, is_of_author, is_of_guest, is_unsayable};
 ghost use Rattle.server_core.specs.Opening as opening;
 
+use guests::is_guest;
 use pad_core::{Act, Person, Reply, session_refusal};
 use pad_model::{Author, Items, Name, OLD_REPLICA, Refusal, Version, Who};
 use sessions::{Accounts, Session, Word};
@@ -123,7 +124,21 @@ pub fn create_refusal(who: &Who, pad: &Name) -> Option<Refusal>
     if !pad.is_well_formed() {
         return Some(Refusal::BadName);
     }
-    None
+    if is_of_guest(who) {
+        Some(Refusal::Denied)
+    } else {
+        None
+    }
+}
+
+/// Returns true if a session is a guest's.
+fn is_of_guest(who: &Who) -> bool
+    ensures { result ≡ is_of_guest who.now }
+{
+    match who {
+        Who::Author(name) => is_guest(name),
+        Who::Nobody | Who::Peer { .. } => false,
+    }
 }
 
 /// The reason to refuse a list of pads, if there is one.

@@ -15,7 +15,7 @@ use Rattle.sessions.specs.AccountsFile.{Said, an_author, a_hash, a_peer, a_perso
 use Rattle.sessions.specs.People.{People, author_of, display_of, no_people, with_id, with_person}
 use Rattle.sessions.specs.UserLaws.{OneAuthorLaw}
 use Rattle.sessions.specs.UserNames.{name_for}
-use Rattle.sessions.specs.Users.{author_or_stranger, by_person, is_given}
+use Rattle.sessions.specs.Users.{author_or_stranger, by_person, is_for_users, is_given}
 use Rattle.sessions.specs.declared.mistake.Mistake.{Mistake}
 use Rattle.sessions.specs.declared.secret.Secret.{Secret}
 use Rattle.sessions.specs.declared.people.TheConstants.{MAX_PEOPLE}
@@ -182,7 +182,7 @@ comes_from user name a is = by (author_of user a.people) refl is
         split (not a.any_user)
         (λ t. let off = sym (cond-true _ _ _ t) ∙ is in absurd (cc))
         (λ f. let is1 = sym (cond-false _ _ _ f) ∙ is in
-        split (not (is_name (name_for user)))
+        split (not (is_for_users (name_for user)))
         (λ t. let off = sym (cond-true _ _ _ t) ∙ is1 in absurd (cc))
         (λ f1. let is2 = sym (cond-false _ _ _ f1) ∙ is1 in
         split (is_given (name_for user) a)
@@ -191,8 +191,8 @@ comes_from user name a is = by (author_of user a.people) refl is
         inr (same, ap (λ n. is_given n a) (sym same) ∙ f2))))
 
 pub one_author : OneAuthorLaw
-one_author file read any one other name is bytes others first second =
-    let a : Accounts = record read { any_user = any } in
+one_author file read any guests one other name is bytes others first second =
+    let a : Accounts = record read { any_user = any; guests = guests } in
     let apart = lines_apart (lines file) no_accounts read 1 nobody_apart is in
     elim (comes_from one name a first) [
       | inl was ↦ elim (comes_from other name a second) [

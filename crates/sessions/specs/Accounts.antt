@@ -1,8 +1,9 @@
 -- Who may log in.
-use Rattle.std.specs.Prelude.{◌≡◌, ℕ, ◌+◌, Bool, false, ◌&&◌, ◌==◌, nat_le, if◌then◌else◌, Option, Some, None, Result}
+use Rattle.std.specs.Prelude.{◌≡◌, ℕ, ◌+◌, Bool, false, not, ◌&&◌, ◌||◌, ◌==◌, nat_le, if◌then◌else◌, Option, Some, None, Result}
 use Rattle.std.specs.Prelude.{Ok, Err, List, [], ◌∷◌, ◌++◌, length, bytes_eq}
 use Rattle.std.specs.List.{list_any}
 use Rattle.std.specs.Str.Lines.{lines}
+use Rattle.guests.specs.Guests.{guest_name}
 use Rattle.sessions.specs.AccountsFile.{Said, nothing, an_author, a_hash, a_peer, a_person, meaning}
 use Rattle.sessions.specs.People.{People, no_people, with_person}
 use Rattle.sessions.specs.Secrets.{opens}
@@ -16,16 +17,18 @@ use Rattle.sessions.specs.declared.mistake.Mistake.TheVariants.{NameTwice, Numbe
 use Rattle.sessions.specs.declared.secret.Secret.{Secret}
 use Rattle.sessions.specs.declared.secret.Secret.TheVariants.{Token, Hash}
 
--- the accounts of authors and of peers, in the order of their lines, the persons, and whether any user of a proxy is an author
+-- the accounts of authors and of peers, in the order of their lines, the persons, whether any user of a proxy is an author, and
+-- whether guests may log in
 pub record Accounts : Type 0 where
   pub authors : List AuthorAccount
   pub peers : List Peer
   pub people : People
   pub any_user : Bool
+  pub guests : Bool
 
 -- nobody may log in, and there are no persons
 abbrev pub no_accounts : Accounts
-no_accounts = record { authors = []; peers = []; people = no_people; any_user = false }
+no_accounts = record { authors = []; peers = []; people = no_people; any_user = false; guests = false }
 
 -- whether an account has a name
 abbrev pub has_name : List ℕ → AuthorAccount → Bool
@@ -94,10 +97,18 @@ abbrev pub outcome : {A : Type 0} → Option Mistake → A → Result A Mistake
 outcome None after = Ok after
 outcome (Some mistake) after = Err mistake
 
--- whether an author has this token, or its hash
-abbrev pub is_author : List ℕ → List ℕ → Accounts → Bool
-is_author name token a = list_any (λ account. has_name name account && opens token account.secret)
+-- whether an account has this name, and this token or its hash
+abbrev pub has_account : List ℕ → List ℕ → Accounts → Bool
+has_account name token a = list_any (λ account. has_name name account && opens token account.secret)
     a.authors
+
+-- whether this is the name of the guest with this token, guests may log in, and no account has the name
+abbrev pub lets_in : List ℕ → List ℕ → Accounts → Bool
+lets_in name token a = a.guests && not (list_any (has_name name) a.authors) && bytes_eq name (guest_name token)
+
+-- whether an author has this token: an account says so, or it is a guest
+abbrev pub is_author : List ℕ → List ℕ → Accounts → Bool
+is_author name token a = has_account name token a || lets_in name token a
 
 -- whether a peer has this token
 abbrev pub is_peer : ℕ → List ℕ → Accounts → Bool

@@ -18,9 +18,10 @@ abbrev pub TellsUserLaw : Type 0
 TellsUserLaw = ((user : List ℕ) → AreBytes user → user_for (name_for user) ≡ Some user)
     × ((name user : List ℕ) → user_for name ≡ Some user → name_for user ≡ name)
 
--- by an accounts file, whether any user is an author or not, two users of a proxy who are one author are one user
+-- by an accounts file, whether any user is an author or not, and guests may log in or not, two users of a proxy who are one author
+-- are one user
 abbrev pub OneAuthorLaw : Type 0
-OneAuthorLaw = (file : List ℕ) (read : Accounts) (any : Bool) (one other name : List ℕ)
+OneAuthorLaw = (file : List ℕ) (read : Accounts) (any guests : Bool) (one other name : List ℕ)
     → accounts_of file ≡ Ok read → AreBytes one → AreBytes other
-    → author_or_stranger one (record read { any_user = any }) ≡ Ok name
-    → author_or_stranger other (record read { any_user = any }) ≡ Ok name → one ≡ other
+    → author_or_stranger one (record read { any_user = any; guests = guests }) ≡ Ok name
+    → author_or_stranger other (record read { any_user = any; guests = guests }) ≡ Ok name → one ≡ other

@@ -2,6 +2,7 @@
 use Rattle.std.specs.Prelude.{ℕ, Bool, not, ◌&&◌, ◌||◌, if◌then◌else◌, List, bytes_eq, Option, None, Some, is_some, Result, Ok, Err}
 use Rattle.std.specs.List.{list_any}
 use Rattle.pad_model.specs.Checked.{is_name}
+use Rattle.guests.specs.Guests.{is_guest}
 use Rattle.sessions.specs.Accounts.{Accounts, has_name}
 use Rattle.sessions.specs.AccountsFile.{is_display}
 use Rattle.sessions.specs.People.{author_of, display_of}
@@ -13,15 +14,20 @@ use Rattle.sessions.specs.declared.users.Stranger.TheVariants.{NoLine, NoName, T
 abbrev pub is_given : List ℕ → Accounts → Bool
 is_given name a = list_any (has_name name) a.authors || is_some (display_of name a.people)
 
--- a name, if an author can have it
-abbrev pub well_formed : List ℕ → Option (List ℕ)
-well_formed name = if is_name name then Some name else None
+-- whether a name can be that of a user who is no person: an author can have it, and it is no guest's
+unfoldable pub is_for_users : List ℕ → Bool
+is_for_users name = is_name name && not (is_guest name)
 
--- the author with the name that is made from a user, or the reason for none: an author can have it, and nobody else has it
+-- a name, if it can be that of a user who is no person
+abbrev pub for_users : List ℕ → Option (List ℕ)
+for_users name = if is_for_users name then Some name else None
+
+-- the author with the name that is made from a user, or the reason for none: an author can have it, it is no guest's, and nobody
+-- else has it
 abbrev pub made_author : List ℕ → Accounts → Result (List ℕ) Stranger
 made_author name a =
     if not a.any_user then Err NoLine
-    else if not (is_name name) then Err NoName
+    else if not (is_for_users name) then Err NoName
     else if is_given name a then Err (Taken name)
     else Ok name
 

@@ -2,7 +2,7 @@
 ghost use Rattle.std.specs.Prelude.{◌≡◌, Ok, IfOk, IfErr, option_copied, option_map};
 ghost use Rattle.std.specs.List.{list_any};
 ghost use Rattle.sessions.specs.Accounts.{has_name, has_number, is_full, with_author, with_line, with_people, outcome};
-ghost use Rattle.sessions.specs.Accounts.{accounts_of, Tells, is_author, is_peer};
+ghost use Rattle.sessions.specs.Accounts.{accounts_of, Tells, has_account, is_author, is_peer, lets_in};
 ghost use Rattle.sessions.specs.AccountsFile.{a_peer};
 ghost use Rattle.sessions.specs.People.{author_of, display_of, with_person};
 ghost use Rattle.sessions.specs.Said.{said};
@@ -13,6 +13,7 @@ use crate::mistake::Mistake;
 use crate::people::People;
 use crate::secret::Secret;
 use crate::word::Word;
+use guests::opens;
 use pad_model::Name;
 use std::alloc::{AllocError, AllocFailed, Global};
 use std::marker::Model;
@@ -53,13 +54,14 @@ pub struct Peer {
     pub address: Word,
 }
 
-/// The authors and peers that may log in, the persons, and whether any user of a proxy is an author.
+/// The authors and peers that may log in, the persons, whether any user of a proxy is an author, and whether guests may log in.
 #[derive(Drop)]
 pub struct Accounts {
     authors: Vec<AuthorAccount>,
     peers: Vec<Peer>,
     people: People,
     any_user: bool,
+    guests: bool,
 }
 
 impl Model for Accounts {
@@ -72,11 +74,12 @@ impl Model for Accounts {
       peers = a.peers.items;
       people = a.people;
       any_user = a.any_user;
+      guests = a.guests;
     } };
 }
 
 impl Accounts {
-    /// Reads a whole accounts file. By the file alone, a user of a proxy who is no person is no author.
+    /// Reads a whole accounts file. By the file alone, a user of a proxy who is no person is no author, and nobody is a guest.
     pub fn read(alloc: Global, bytes: &[u8]) -> Result<Accounts, AccountsError>
         ensures ok { IfOk result (λ accounts. accounts_of bytes.now ≡ Ok accounts) }
         ensures refused { IfErr result (Tells bytes.now) }
@@ -86,6 +89,7 @@ impl Accounts {
             peers: Vec::new(alloc),
             people: People::new(alloc),
             any_user: false,
+            guests: false,
         };
         let mut rest = bytes;
         let mut line = 0;
@@ -111,6 +115,13 @@ impl Accounts {
         Accounts { any_user, ..self }
     }
 
+    /// These accounts, where guests may log in or not.
+    pub fn with_guests(self, guests: bool) -> Accounts
+        ensures { result ≡ record self { guests = guests } }
+    {
+        Accounts { guests, ..self }
+    }
+
     /// Returns true if any user of a proxy is an author.
     pub(crate) fn takes_any_user(&self) -> bool
         ensures { result ≡ self.now.any_user }
@@ -118,11 +129,25 @@ impl Accounts {
         self.any_user
     }
 
-    /// Returns true if the author has this token or its hash.
+    /// Returns true if the author has this token or its hash, or is the guest with this token. No guest has the name of an account.
     pub fn author(&self, name: &str, token: &str) -> bool
         ensures { result ≡ is_author name.now token.now self.now }
     {
+        self.has_account(name, token) || self.lets_in(name, token)
+    }
+
+    /// Returns true if an account has this name, and this token or its hash.
+    fn has_account(&self, name: &str, token: &str) -> bool
+        ensures { result ≡ has_account name.now token.now self.now }
+    {
         self.authors.iter().any(|account| account.name.is(name) && account.secret.opens(token))
+    }
+
+    /// Returns true if this is the name of the guest with this token, guests may log in, and no account has the name.
+    fn lets_in(&self, name: &str, token: &str) -> bool
+        ensures { result ≡ lets_in name.now token.now self.now }
+    {
+        self.guests && !self.has_author(name) && opens(name, token)
     }
 
     /// Returns true if the peer with this number has this token. No peer has a number above `MAX_REPLICA`.

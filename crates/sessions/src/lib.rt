@@ -1,6 +1,6 @@
 //! The accounts that may log in, the owner of a session, and the pads that it has joined.
 //!
-//! It depends on `pad_model`, on `indexmap` for persons, and on `sha2` and `hex` for hashes of tokens. The crates above decide whether a session may join a pad, and which cell a
+//! It depends on `pad_model`, on `guests`, on `indexmap` for persons, and on `sha2` and `hex` for hashes of tokens. The crates above decide whether a session may join a pad, and which cell a
 //! pad has.
 #![tactic(auto)]
 

@@ -1,13 +1,14 @@
 //! The author that a user of a proxy is, by the accounts file, and the text shown for one who has no line.
-ghost use Rattle.std.specs.Prelude.{◌≡◌, true, IfOk};
+ghost use Rattle.std.specs.Prelude.{◌≡◌, true, IfOk, IfSome};
 ghost use Rattle.pad_model.specs.Checked.{is_name};
-ghost use Rattle.sessions.specs.Users.{author_or_stranger, is_given, made_author, shown_for, shown_user, well_formed};
+ghost use Rattle.sessions.specs.Users.{author_or_stranger, for_users, is_given, made_author, shown_for, shown_user};
 ghost use Rattle.sessions.specs.UserNames.{name_for, user_for};
 
 use crate::accounts::Accounts;
 use crate::line::{display_text, name_text};
 use crate::user_name::{letters_for, user_for};
 use crate::word::Word;
+use guests::is_guest;
 use pad_model::Name;
 use std::alloc::{AllocError, Global};
 
@@ -16,7 +17,7 @@ use std::alloc::{AllocError, Global};
 pub enum Stranger {
     /// No person has it as its ID.
     NoLine,
-    /// No author can have the name that is made from it: it is empty, or too long.
+    /// No author can have the name that is made from it: it is empty, too long, or a guest's.
     NoName,
     /// The accounts file gives the name that is made from it to somebody.
     Taken(Name),
@@ -41,7 +42,7 @@ impl Accounts {
         }
     }
 
-    // The author with the name that is made from a user, if any user is an author.
+    // The author with the name that is made from a user, if any user is an author. Nobody from a proxy can be taken for a guest.
     fn made_author(&self, alloc: Global, user: &[u8]) -> Result<Result<Name, Stranger>, AllocError>
         ensures value { IfOk result (λ found. found ≡ made_author (name_for user.now) self.now) }
         ensures named { IfOk result (λ found. IfOk found (λ name. is_name name ≡ true)) }
@@ -80,14 +81,21 @@ impl Accounts {
     }
 }
 
-// The name that is made from a user, if an author can have it.
+// The name that is made from a user, if an author can have it, and it is no guest's.
+#[tactic(auto, unfolding(crate::specs::Users::is_for_users))]
 fn name_of(alloc: Global, user: &[u8]) -> Result<Option<Name>, AllocError>
-    ensures { IfOk result (λ name. name ≡ well_formed (name_for user.now)) }
+    ensures value { IfOk result (λ name. name ≡ for_users (name_for user.now)) }
+    ensures named { IfOk result (λ name. IfSome name (λ n. is_name n ≡ true)) }
 {
     let letters = letters_for(alloc, user)?;
-    match name_text(letters.as_slice()) {
-        Ok(name) => Ok(Some(Name::from_str(alloc, name)?)),
-        Err(_) => Ok(None),
+    let Ok(text) = name_text(letters.as_slice()) else {
+        return Ok(None);
+    };
+    let name = Name::from_str(alloc, text)?;
+    if is_guest(&name) {
+        Ok(None)
+    } else {
+        Ok(Some(name))
     }
 }
 

@@ -68,20 +68,34 @@ pub fn load_file<S: Sequence>(
     let path = path_of(files.alloc(), folder, name)?;
     let pad = name.strip_suffix(".pad").unwrap_or(name);
     match load_pieces(files, path.as_str(), pad, owner, numbers)? {
-        Ok(loaded) => {
-            check_owner(owner, &loaded)?;
-            let opened = open_loaded(files, path.as_str(), owner.replica(), loaded)?;
-            Ok(Some(opened))
-        }
-        Err(Damage::Empty) => {
-            move_aside(files, path.as_str())?;
+        Ok(loaded) => Ok(Some(open_own(files, path.as_str(), owner, loaded)?)),
+        Err(damage) => {
+            pass_over(files, path.as_str(), damage)?;
             Ok(None)
         }
-        Err(damage) => {
-            let _told = eprintln!(files; "pad_server: {path}: {damage}");
-            Err(Unloaded::Damaged)
-        }
     }
+}
+
+// A pad with its file, if the file is this server's, or may become so.
+fn open_own<S: Sequence>(
+    files: &HostRuntime,
+    path: &str,
+    owner: &Owner,
+    loaded: Loaded<S>,
+) -> Result<PadFile<S>, Unloaded> {
+    match check_owner(owner, &loaded) {
+        Ok(()) => Ok(open_loaded(files, path, owner.replica(), loaded)?),
+        Err(unloaded) => Err(unloaded),
+    }
+}
+
+// Moves a file aside whose pad was never named. Any other damage is printed, and is an error.
+fn pass_over(files: &HostRuntime, path: &str, damage: Damage) -> Result<(), Unloaded> {
+    if let Damage::Empty = damage {
+        return Ok(move_aside(files, path)?);
+    }
+    let _told = eprintln!(files; "pad_server: {path}: {damage}");
+    Err(Unloaded::Damaged)
 }
 
 fn path_of(alloc: Global, folder: &str, name: &str) -> io::Result<String> {

@@ -49,15 +49,32 @@ pub fn load_from<R: Read, S: Sequence>(
         if count == 0 {
             return Ok(loading.finish(alloc, name, bytes.as_slice()));
         }
-        let (next, taken) = match loading.take(alloc, name, bytes.as_slice()) {
-            Ok(done) => done,
+        match take_lines(alloc, loading, name, &mut bytes, numbers)? {
+            Ok(next) => loading = next,
             Err(damage) => return Ok(Err(damage)),
-        };
-        loading = next;
-        note_numbers(numbers, &bytes.as_slice()[..taken])?;
-        drop_front(&mut bytes, taken);
+        }
     }
     Err(io::Error::from(ErrorKind::FileTooLarge))
+}
+
+// Takes the whole lines at the front of these bytes, and drops them there.
+fn take_lines<S: Sequence>(
+    alloc: Global,
+    loading: Loading<S>,
+    name: &str,
+    bytes: &mut Vec<u8>,
+    numbers: &mut Vec<u16>,
+) -> io::Result<Result<Loading<S>, Damage>>
+    requires { loading.taken + vec_len bytes.old ≤ 18446744073709551615 }
+{
+    match loading.take(alloc, name, bytes.as_slice()) {
+        Ok((next, taken)) => {
+            note_numbers(numbers, &bytes.as_slice()[..taken])?;
+            drop_front(bytes, taken);
+            Ok(Ok(next))
+        }
+        Err(damage) => Ok(Err(damage)),
+    }
 }
 
 // Returns true if the number of bytes fits its type.

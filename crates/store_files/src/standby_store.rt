@@ -240,28 +240,49 @@ fn read_copy<'f>(
     name: &str,
     owner: &Owner,
 ) -> Result<CopiedFile, StoreError<'f>> {
-    let alloc = files.alloc();
     let pad = name.strip_suffix(".pad").unwrap_or(name);
-    let path = format!(in alloc; "{folder}/{name}")?;
-    let mut numbers = Vec::new(alloc);
-    let loaded = load_pieces::<BlockSeq>(files, path.as_str(), pad, owner, &mut numbers);
-    let (length, sum) = match loaded {
-        Ok(Ok(loaded)) => (loaded.whole, loaded.sum),
-        Ok(Err(Damage::Empty)) => (0, String::new(alloc)),
-        Ok(Err(Damage::Memory)) => return Err(StoreError::Memory),
-        Ok(Err(damage)) => {
-            let _told = eprintln!(files; "pad_server: {path}: {damage}");
-            return Err(StoreError::Damaged { folder });
-        }
-        Err(cause) => return Err(StoreError::Unopened { folder, cause }),
-    };
-    match cut(files, folder, pad, length) {
+    let copy = whole_lines_of(files, folder, name, pad, owner)?;
+    match cut(files, folder, pad, copy.length()) {
         Ok(()) => Ok(CopiedFile {
-            pad: Name::from_str(alloc, pad)?,
-            copy: PadCopy::new(length, sum),
+            pad: Name::from_str(files.alloc(), pad)?,
+            copy,
             is_synced: true,
         }),
         Err(cause) => Err(StoreError::Unopened { folder, cause }),
+    }
+}
+
+// The copy that the whole lines of a file make.
+fn whole_lines_of<'f>(
+    files: &HostRuntime,
+    folder: &'f str,
+    name: &str,
+    pad: &str,
+    owner: &Owner,
+) -> Result<PadCopy, StoreError<'f>> {
+    let path = format!(in files.alloc(); "{folder}/{name}")?;
+    let mut numbers = Vec::new(files.alloc());
+    match load_pieces::<BlockSeq>(files, path.as_str(), pad, owner, &mut numbers) {
+        Ok(Ok(loaded)) => Ok(PadCopy::new(loaded.whole, loaded.sum)),
+        Ok(Err(damage)) => copy_without(files, folder, path.as_str(), damage),
+        Err(cause) => Err(StoreError::Unopened { folder, cause }),
+    }
+}
+
+// The empty copy, where a file has no whole line. Any other damage is printed, and is an error.
+fn copy_without<'f>(
+    files: &HostRuntime,
+    folder: &'f str,
+    path: &str,
+    damage: Damage,
+) -> Result<PadCopy, StoreError<'f>> {
+    match damage {
+        Damage::Empty => Ok(PadCopy::new(0, String::new(files.alloc()))),
+        Damage::Memory => Err(StoreError::Memory),
+        _ => {
+            let _told = eprintln!(files; "pad_server: {path}: {damage}");
+            Err(StoreError::Damaged { folder })
+        }
     }
 }
 

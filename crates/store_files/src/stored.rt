@@ -196,11 +196,15 @@ impl LoadingPads {
         cells: u32,
         read: Read<BlockSeq>,
     ) -> Result<(), StoreError<'f>> {
+        let is_full = self.cells.len() >= cells as usize;
         match read.into_pad() {
-            Ok(Some(_)) if self.cells.len() >= cells as usize => {
-                Err(StoreError::TooManyPads { folder })
+            Ok(Some(loaded)) => {
+                if is_full {
+                    Err(StoreError::TooManyPads { folder })
+                } else {
+                    Ok(self.add(alloc, loaded)?)
+                }
             }
-            Ok(Some(loaded)) => Ok(self.add(alloc, loaded)?),
             Ok(None) => Ok(()),
             Err(unloaded) => Err(unloaded.in_folder(folder)),
         }

@@ -3,6 +3,7 @@ use Rattle.std.proofs.Common.{◌≡◌, ℕ, Bool, true, false, not, cond, ◌&
 use Rattle.std.proofs.Common.{Result, Ok, Err, refl, sym, ap, ◌∙◌}
 use Rattle.std.proofs.lemmas.Bool.{cond-true}
 use Rattle.std.proofs.lemmas.Slice.Eq.{bytes_eq-Decides}
+use Rattle.guests.specs.Guests.{is_guest}
 use Rattle.pad_model.specs.Checked.{is_name}
 use Rattle.pad_model.specs.declared.refusal.Refusal.{Refusal}
 use Rattle.pad_model.specs.declared.refusal.Refusal.TheVariants.{BadName}
@@ -13,7 +14,7 @@ use Rattle.pad_core.specs.Restart.{author_if, restore_claim}
 use Rattle.pad_core.specs.declared.owned.Owned.{Owned}
 use Rattle.store_records.specs.Records.{rebuilt, replay, replay_all, replayed, unless_refused, unnamed}
 use Rattle.store_records.specs.declared.kept_record.Record.{Record}
-use Rattle.store_records.specs.declared.kept_record.Record.TheVariants.{Named, Granted, Handed, Marked, Visited, Delivered}
+use Rattle.store_records.specs.declared.kept_record.Record.TheVariants.{Named, Granted, Handed, Marked, Introduced, Visited, Delivered}
 use Rattle.store_format.specs.Files.{Read, if_called, if_named}
 use Rattle.store_format.specs.declared.reader.Damage.TheVariants.{Empty, OtherPad}
 
@@ -47,6 +48,9 @@ one_stays (Handed author) owned m =
 one_stays (Marked this) owned m =
     either (λ (done : Result (Unit {0}) Refusal × Machine). name_of done.1.owned ≡ Some owned.name)
     (not (is_name this.author)) (Err BadName, owning (Some owned) m) _ refl refl
+one_stays (Introduced guest) owned m =
+    either (λ (done : Result (Unit {0}) Refusal × Machine). name_of done.1.owned ≡ Some owned.name)
+    (not (is_name guest.author && is_guest guest.author)) (Err BadName, owning (Some owned) m) _ refl refl
 one_stays (Visited author) owned m = refl
 one_stays (Delivered at visit op) owned m = refl
 

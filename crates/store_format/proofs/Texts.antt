@@ -14,10 +14,11 @@ use Rattle.rights.specs.declared.right.Right.{Right}
 use Rattle.rights.specs.declared.right.Right.TheVariants as right
 use Rattle.pad_model.specs.declared.op.Op.{Op}
 use Rattle.store_records.specs.declared.kept_record.Record.{Record}
-use Rattle.store_records.specs.declared.kept_record.Record.TheVariants.{Named, Granted, Handed, Marked, Visited, Delivered}
+use Rattle.store_records.specs.declared.kept_record.Record.TheVariants.{Named, Granted, Handed, Marked, Introduced, Visited, Delivered}
+use Rattle.guests.specs.declared.guest.Guest.{Guest}
 use Rattle.named_revisions.specs.declared.named_revision.NamedRevision.{NamedRevision}
 use Rattle.wire_json.specs.Forms.{text_data}
-use Rattle.wire_json.specs.Reading.{of_three, text_in}
+use Rattle.wire_json.specs.Reading.{of_three, of_two, text_in}
 use Rattle.wire_json.specs.Lines.{value_of}
 use Rattle.wire_json.specs.Operations.{op_data}
 use Rattle.wire_json.specs.Peers.{push_request}
@@ -27,7 +28,7 @@ use Rattle.wire_json.proofs.OpAgain.{reads_again}
 use Rattle.wire_json.proofs.Plain.{push_has_no_float, push_is_shallow}
 use Rattle.wire_json.proofs.Values.{value_of_text}
 use Rattle.store_format.specs.Entries.{entry_in, entry_said, header_data}
-use Rattle.store_format.specs.Forms.{IsSayableRecord, marked_at, record_data}
+use Rattle.store_format.specs.Forms.{IsSayableRecord, introduced_as, marked_at, record_data}
 use Rattle.store_format.specs.Laws.{IsLine, Tells}
 use Rattle.store_format.specs.declared.entry.StoreLine.{StoreLine}
 use Rattle.store_format.specs.declared.entry.StoreLine.TheVariants as entry
@@ -63,6 +64,8 @@ record_has_no_float at true (Handed author) = refl
 record_has_no_float at false (Handed author) = refl
 record_has_no_float at true (Marked named) = refl
 record_has_no_float at false (Marked named) = refl
+record_has_no_float at true (Introduced guest) = refl
+record_has_no_float at false (Introduced guest) = refl
 record_has_no_float at true (Visited None) = refl
 record_has_no_float at true (Visited (Some author)) = refl
 record_has_no_float at false (Visited None) = refl
@@ -83,6 +86,8 @@ record_is_shallow at true (Handed author) = lit≤ tt
 record_is_shallow at false (Handed author) = lit≤ tt
 record_is_shallow at true (Marked named) = lit≤ tt
 record_is_shallow at false (Marked named) = lit≤ tt
+record_is_shallow at true (Introduced guest) = lit≤ tt
+record_is_shallow at false (Introduced guest) = lit≤ tt
 record_is_shallow at true (Visited None) = lit≤ tt
 record_is_shallow at true (Visited (Some author)) = lit≤ tt
 record_is_shallow at false (Visited None) = lit≤ tt
@@ -128,6 +133,14 @@ marked_again named scalars small =
     ap₂ (λ (t : ℕ) (o : Option (List ℕ)). option_map entry.Record (of_three (marked_at t) (Some named.author) (Some named.rev) o))
     (time_again named.at small) (text_again named.text scalars)
 
+-- a guest is read again from its fields
+introduced_again : (guest : Guest) → all_scalars guest.display ≡ true →
+    option_map entry.Record (of_two introduced_as (Some guest.author) (text_in (text_data guest.display)))
+    ≡ Some (entry.Record (Introduced guest))
+introduced_again guest scalars =
+    ap (λ (o : Option (List ℕ)). option_map entry.Record (of_two introduced_as (Some guest.author) o))
+    (text_again guest.display scalars)
+
 -- the written form of a record is read as the record
 pub record_again : (at : ℕ) (together : Bool) (kept : Record) → IsSayableRecord kept →
     entry_in (record_data at together kept) ≡ Some (entry.Record kept)
@@ -140,6 +153,8 @@ record_again at true (Handed author) h = refl
 record_again at false (Handed author) h = refl
 record_again now true (Marked named) (scalars, small) = marked_again named scalars small
 record_again now false (Marked named) (scalars, small) = marked_again named scalars small
+record_again now true (Introduced guest) scalars = introduced_again guest scalars
+record_again now false (Introduced guest) scalars = introduced_again guest scalars
 record_again at true (Visited None) h = refl
 record_again at true (Visited (Some author)) h = refl
 record_again at false (Visited None) h = refl

@@ -9,7 +9,7 @@ use Rattle.pad_model.specs.Checked.{is_checked}
 use Rattle.rights.specs.declared.grantee.Grantee.TheVariants.{Author, Everyone}
 use Rattle.rights.specs.declared.right.Right.{Right}
 use Rattle.store_records.specs.declared.kept_record.Record.{Record}
-use Rattle.store_records.specs.declared.kept_record.Record.TheVariants.{Named, Granted, Handed, Marked, Visited, Delivered}
+use Rattle.store_records.specs.declared.kept_record.Record.TheVariants.{Named, Granted, Handed, Marked, Introduced, Visited, Delivered}
 use Rattle.wire_json.specs.Forms.{Field, fields_data, number_data, text_data}
 use Rattle.wire_json.specs.Laws.{IsSayable}
 use Rattle.wire_json.specs.Operations.{op_data}
@@ -36,6 +36,8 @@ record_fields (Handed author) = (codes "kind", string (codes "handed")) ∷ (cod
 record_fields (Marked named) = (codes "author", string named.author) ∷ (codes "kind", string (codes "marked"))
     ∷ (codes "ms", number_data (named.at % 1000)) ∷ (codes "rev", number_data named.rev)
     ∷ (codes "text", text_data named.text) ∷ []
+record_fields (Introduced guest) = (codes "author", string guest.author) ∷ (codes "display", text_data guest.display)
+    ∷ (codes "kind", string (codes "introduced")) ∷ []
 record_fields (Visited None) = (codes "kind", string (codes "visited")) ∷ []
 record_fields (Visited (Some author)) = (codes "author", string author) ∷ (codes "kind", string (codes "visited")) ∷ []
 record_fields (Delivered at visit op) = (codes "kind", string (codes "delivered"))
@@ -52,6 +54,7 @@ seconds_of now (Named name owner visits) = now
 seconds_of now (Granted grantee right) = now
 seconds_of now (Handed author) = now
 seconds_of now (Marked named) = named.at / 1000
+seconds_of now (Introduced guest) = now
 seconds_of now (Visited author) = now
 seconds_of now (Delivered at visit op) = at / 1000
 
@@ -66,6 +69,7 @@ IsSayableRecord (Named name owner visits) = Unit {0}
 IsSayableRecord (Granted grantee right) = Unit {0}
 IsSayableRecord (Handed author) = Unit {0}
 IsSayableRecord (Marked named) = (all_scalars named.text ≡ true) × (named.at < 2 ^ 64)
+IsSayableRecord (Introduced guest) = all_scalars guest.display ≡ true
 IsSayableRecord (Visited author) = Unit {0}
 IsSayableRecord (Delivered at visit op) = IsTrue (is_checked op) × IsSayable op × (at < 2 ^ 64)
 
@@ -90,6 +94,10 @@ time_in d = min (min (number_or_none (codes "at") d * 1000) (2 ^ 64 - 1) + numbe
 abbrev pub marked_at : ℕ → List ℕ → ℕ → List ℕ → Record
 marked_at at author rev text = Marked (record { rev = rev; author = author; at = at; text = text })
 
+-- a guest that got a display name
+abbrev pub introduced_as : List ℕ → List ℕ → Record
+introduced_as author display = Introduced (record { author = author; display = display })
+
 -- the record of a kind, from its fields
 abbrev pub record_of : List ℕ → Data → Option Record
 record_of kind d =
@@ -102,6 +110,8 @@ record_of kind d =
     else if bytes_eq kind (codes "handed") then option_map Handed (text_in (codes "owner") d)
     else if bytes_eq kind (codes "marked") then of_three (marked_at (time_in d)) (text_in (codes "author") d)
     (field number_in (codes "rev") d) (field characters_in (codes "text") d)
+    else if bytes_eq kind (codes "introduced") then of_two introduced_as (text_in (codes "author") d)
+    (field characters_in (codes "display") d)
     else if bytes_eq kind (codes "visited") then Some (Visited (text_in (codes "author") d))
     else if bytes_eq kind (codes "delivered") then option_map
     (Delivered (time_in d) (number_or_none (codes "visit") d)) (field op_in (codes "op") d)

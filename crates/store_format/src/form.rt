@@ -5,10 +5,11 @@ ghost use Rattle.wire_json.specs.Forms.{with_fields};
 ghost use Rattle.wire_json.specs.Operations.{op_data};
 ghost use Rattle.wire_json.specs.Reading.{IsRead};
 ghost use Rattle.rights.specs.declared.grantee.Grantee.TheVariants.{Author, Everyone};
-ghost use Rattle.store_records.specs.declared.kept_record.Record.TheVariants.{Delivered, Granted, Marked, Named, Visited};
+ghost use Rattle.store_records.specs.declared.kept_record.Record.TheVariants.{Delivered, Granted, Introduced, Marked, Named, Visited};
 ghost use Rattle.store_format.specs.Forms.{record_data, record_fields, record_in, record_of};
 ghost use Rattle.store_format.specs.Forms as forms;
 
+use guests::Guest;
 use named_revisions::NamedRevision;
 use pad_model::{Name, Op, Refusal};
 use rights::{Grantee, Right};
@@ -50,6 +51,7 @@ fn seconds_of(now: u64, kept: &Record) -> u64
         Record::Named { .. }
         | Record::Granted { .. }
         | Record::Handed { .. }
+        | Record::Introduced { .. }
         | Record::Visited { .. } => now,
     }
 }
@@ -77,6 +79,7 @@ fn put_record(
             put(fields, alloc, "owner", name_value(alloc, author)?)
         }
         Record::Marked { named } => put_marked(alloc, fields, named),
+        Record::Introduced { guest } => put_introduced(alloc, fields, guest),
         Record::Visited { author } => put_visited(alloc, fields, author),
         Record::Delivered { at, visit, op } => put_delivered(alloc, fields, *at, *visit, op),
     }
@@ -162,6 +165,24 @@ fn put_marked(
     put(fields, alloc, "text", text_value(alloc, &named.text)?)
 }
 
+fn put_introduced(
+    alloc: Global,
+    fields: &mut Map<String, Value>,
+    guest: &Guest,
+) -> Result<(), AllocError>
+    ensures { OnOk result (members_view fields.new.entries
+        ≡ with_fields (record_fields (Introduced guest.now)) (members_view fields.old.entries)) }
+{
+    put(fields, alloc, "author", name_value(alloc, &guest.author)?)?;
+    put(fields, alloc, "display", text_value(alloc, &guest.display)?)?;
+    put(
+        fields,
+        alloc,
+        "kind",
+        Value::try_from_str(alloc, "introduced")?,
+    )
+}
+
 fn put_visited(
     alloc: Global,
     fields: &mut Map<String, Value>,
@@ -237,6 +258,7 @@ fn read_kind(alloc: Global, kind: &str, value: &Value) -> Result<Record, Refusal
         "everyone" => read_everyone(value),
         "handed" => read_handed(alloc, value),
         "marked" => read_marked(alloc, value),
+        "introduced" => read_introduced(alloc, value),
         "visited" => read_visited(alloc, value),
         "delivered" => read_delivered(alloc, value),
         _ => Err(Refusal::NotRequest),
@@ -296,6 +318,15 @@ fn read_marked(alloc: Global, value: &Value) -> Result<Record, Refusal>
         text,
     };
     Ok(Record::Marked { named })
+}
+
+fn read_introduced(alloc: Global, value: &Value) -> Result<Record, Refusal>
+    ensures { IsRead (record_of (codes "introduced") (view value.now)) result }
+{
+    let author = name_field(alloc, value, "author")?;
+    let display = text_field(alloc, value, "display")?;
+    let guest = Guest { author, display };
+    Ok(Record::Introduced { guest })
 }
 
 /// A visit of which an earlier version did not write the author has none.

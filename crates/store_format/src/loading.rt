@@ -165,15 +165,31 @@ fn loaded_with<S: Sequence>(
         })) (λ e. if_named name.now (so_far pad tail) ≡ Err e) }
     ensures cut { IfOk result (λ loaded. loaded.whole + loaded.cut ≡ all) }
 {
-    check_name(&pad, name)?;
+    match check_name(&pad, name) {
+        Ok(()) => Ok(loaded_to(pad, tail, all)),
+        Err(damage) => Err(damage),
+    }
+}
+
+// The pad of a file of `all` bytes, whose whole lines end so.
+fn loaded_to<S: Sequence>(pad: Pad<S>, tail: Tail, all: u64) -> Loaded<S>
+    requires { tail.whole ≤ all }
+    ensures read { result ≡ record {
+      pad = pad;
+      header = tail.header;
+      sum = tail.sum;
+      whole = tail.whole;
+      cut = all - tail.whole;
+    } }
+{
     let Tail { header, sum, whole } = tail;
-    Ok(Loaded {
+    Loaded {
         pad,
         header,
         sum,
         whole,
         cut: all - whole,
-    })
+    }
 }
 
 // Reads whole lines, at least one.

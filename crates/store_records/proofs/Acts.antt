@@ -1,5 +1,5 @@
 -- The records of an act lead from the restarted pad before it to the restarted pad after it.
-use Rattle.std.proofs.Common.{◌≡◌, ◌⊎◌, inl, inr, ℕ, ◌+◌, Bool, true, false, cond, List, [], ◌∷◌, ◌++◌}
+use Rattle.std.proofs.Common.{◌≡◌, ◌⊎◌, inl, inr, ℕ, ◌+◌, true, List, [], ◌∷◌, ◌++◌}
 use Rattle.std.proofs.Common.{length, map, Option, Some, None, Result, Ok, Err, bytes_eq, nat_le}
 use Rattle.std.proofs.Common.{ltb, refl, sym, ap, ◌∙◌, subst, not, option_map}
 use Rattle.std.specs.List.{last_or}
@@ -16,8 +16,6 @@ use Rattle.rights.specs.declared.grantee.Grantee.{Grantee}
 use Rattle.rights.specs.declared.grantee.Grantee.TheVariants.{Author, Everyone}
 use Rattle.rights.specs.declared.right.Right.{Right}
 use Rattle.rights.specs.declared.right.Right.TheVariants.{Write}
-use Rattle.named_revisions.specs.Named.{add, name_refusal}
-use Rattle.named_revisions.specs.declared.named_revision.NamedRevision.{NamedRevision}
 use Rattle.op_log.specs.Made.{Made}
 use Rattle.op_log.specs.Makers.{made_in}
 use Rattle.presence.specs.Presence.{Presence, join_refusal, joined, rejoin_refusal, spent_refusal, was_given, with_caret}
@@ -27,9 +25,8 @@ use Rattle.pad_core.specs.Delivered.{IsDelivered}
 use Rattle.pad_core.specs.Edits.{before_place}
 use Rattle.pad_core.specs.Grants.{grant as granted, hand as handed, told_done}
 use Rattle.pad_core.specs.Machine.{Machine, author_act, now_of, peer_act}
-use Rattle.pad_core.specs.Marks.{mark, named as revision_named}
 use Rattle.pad_core.specs.Presence.{join, put_caret, rejoin}
-use Rattle.pad_core.specs.Restart.{restarted, restore_grant, restore_hand, restore_mark, visited}
+use Rattle.pad_core.specs.Restart.{restarted, restore_grant, restore_hand, visited}
 use Rattle.pad_core.specs.declared.act.Act.{Act}
 use Rattle.pad_core.specs.declared.act.Act.TheVariants as act
 use Rattle.pad_core.specs.declared.owned.Owned.{Owned}
@@ -40,20 +37,12 @@ use Rattle.server_core.specs.AtCell.{passed_on}
 use Rattle.store_records.specs.Laws.{now_at, visit_at}
 use Rattle.pad_core.specs.Times.{timed}
 use Rattle.pad_core.proofs.Timed.{same_times}
-use Rattle.store_records.specs.Records.{Answer, act_records, replay_all, unless_refused}
-use Rattle.store_records.specs.declared.kept_record.Record.{Record}
+use Rattle.store_records.specs.Records.{act_records, replay_all, unless_refused}
 use Rattle.store_records.specs.declared.kept_record.Record.TheVariants as kept
 use Rattle.store_records.proofs.Deliveries.{Given, bare, given_on, one_given, quiet}
 use Rattle.store_records.proofs.Numbers.{nobody}
-
--- some records lead from a pad to another, which delivered these operations
-abbrev pub Leads : (ℕ → ℕ → Answer → List Op → List Record) → Machine → Answer → Machine → Type 0
-Leads records old answer after = (more : List Op) → after.log ≡ old.log ++ more → IsDelivered after.log →
-    replay_all (records (now_at old) (visit_at after) answer more) (restarted old) ≡ Ok (restarted after)
-
-pub either : {A : Type 0} (P : A → Type 0) (b : Bool) (x y : A) → P x → P y → P (cond b x y)
-either P true x y p q = p
-either P false x y p q = q
+use Rattle.store_records.proofs.Leading.{Leads, either}
+use Rattle.store_records.proofs.Introductions.{introduces, marks}
 
 -- if a client can join, a further number is given
 can_join : (p : Presence) → join_refusal p ≡ None → spent_refusal p ≡ None
@@ -215,54 +204,6 @@ hands owned asker author m is named =
         ≡ Ok (bare (Some (record owned { rights = new })) m.replica m.presence.limit m.log (given_on m.presence) m.made)) (sym is)
         (hand_again owned m.replica m.presence.limit m.log (given_on m.presence) m.made author new named (q ∙ same)))
 
--- a name of a revision is refused and changes nothing, or it is added
-abbrev Names : List NamedRevision → Result (Unit {0}) Refusal × List NamedRevision → Type 0
-Names old done = ((e : Refusal) × (done ≡ (Err e, old))) ⊎ ((new : List NamedRevision) × (done ≡ (Ok tt, new)))
-
-namings : (now : ℕ) (this : NamedRevision) (all : List NamedRevision) → Names all (revision_named now this all)
-namings now this all = either (Names all) (ltb now this.rev) _ _ (inl (_, refl)) (at (name_refusal this.text all) refl)
-  where
-    at : (r : Option Refusal) → name_refusal this.text all ≡ r → Names all (add this all)
-    at (Some e) q = inl (e, rw q refl)
-    at None q = inr (all ++ this ∷ [], rw q refl)
-
-mark_again : (owned : Owned) (replica limit : ℕ) (log : List Op) (given : Given) (made : Made) (this : NamedRevision)
-    (all : List NamedRevision) →
-    is_name this.author ≡ true → revision_named (length log) this owned.marks ≡ (Ok tt, all) →
-    replay_all (kept.Marked this ∷ []) (bare (Some owned) replica limit log given made)
-    ≡ Ok (bare (Some (record owned { marks = all })) replica limit log given made)
-mark_again owned replica limit log given made this all good is =
-    ap unless_refused names_it
-  where
-    names_it : restore_mark this (bare (Some owned) replica limit log given made)
-        ≡ (Ok tt, bare (Some (record owned { marks = all })) replica limit log given made)
-    names_it = rw good (ap (λ (d : Result (Unit {0}) Refusal × List NamedRevision). (let r : Result (Unit {0}) Refusal
-        × Machine = (d.0, bare (Some (record owned { marks = d.1 })) replica limit log given made) in r)) is)
-
-marks : (owned : Owned) (author : List ℕ) (rev : ℕ) (text : List ℕ) (m : Machine) → m.owned ≡ Some owned → is_name author ≡ true →
-    Leads (act_records (who.Author author) (act.Mark rev text)) m
-    (passed_on (mark (now_of m) (record { rev = rev; author = author; at = now_at m; text = text }) owned.marks).0)
-    (record m { owned = Some (record owned { marks = (mark (now_of m) (record { rev = rev; author = author; at = now_at m; text = text }) owned.marks).1 }) })
-marks owned author rev text m is good = at (revision_named (now_of m) this owned.marks) refl (namings (now_of m) this owned.marks)
-  where
-    this : NamedRevision
-    this = record { rev = rev; author = author; at = now_at m; text = text }
-
-    Goal : Result (Unit {0}) Refusal × List NamedRevision → Type 0
-    Goal done = Leads (act_records (who.Author author) (act.Mark rev text)) m (passed_on (told_done (now_of m) done.0))
-        (record m { owned = Some (record owned { marks = done.1 }) })
-
-    at : (done : Result (Unit {0}) Refusal × List NamedRevision) → revision_named (now_of m) this owned.marks ≡ done →
-        Names owned.marks done → Goal done
-    at done q (inl (e, unchanged)) = subst Goal (sym unchanged)
-        (λ more grown d. ap (λ (o : Option Owned). Ok (bare o m.replica m.presence.limit m.log (given_on m.presence) m.made)) is)
-    at done q (inr (new, more_named)) =
-        subst Goal (sym more_named)
-        (λ more grown d. subst (λ (o : Option Owned). replay_all (kept.Marked this ∷ [])
-        (bare o m.replica m.presence.limit m.log (given_on m.presence) m.made)
-        ≡ Ok (bare (Some (record owned { marks = new })) m.replica m.presence.limit m.log (given_on m.presence) m.made)) (sym is)
-        (mark_again owned m.replica m.presence.limit m.log (given_on m.presence) m.made this new good (q ∙ more_named)))
-
 -- the operations alone lead from a pad to another
 abbrev Moves : Machine → Machine → Type 0
 Moves old after = (more : List Op) → after.log ≡ old.log ++ more → IsDelivered after.log →
@@ -321,6 +262,8 @@ author_leads owned name visit (act.Hand author) m is can named good =
     hands owned name author m is (named author refl)
 author_leads owned name visit (act.Mark rev text) m is can named good =
     marks owned name rev text m is good
+author_leads owned name visit (act.Introduce display) m is can named good =
+    introduces owned name display m is good
 author_leads owned name visit other m is can named good = same m
 
 -- a refused act leaves no records, and changes nothing
@@ -334,6 +277,9 @@ idle (who.Peer number version) (act.Rejoin old) e m = λ more grown d. refl
 idle who.Nobody (act.Mark rev text) e m = λ more grown d. refl
 idle (who.Author name) (act.Mark rev text) e m = λ more grown d. refl
 idle (who.Peer number version) (act.Mark rev text) e m = λ more grown d. refl
+idle who.Nobody (act.Introduce display) e m = λ more grown d. refl
+idle (who.Author name) (act.Introduce display) e m = λ more grown d. refl
+idle (who.Peer number version) (act.Introduce display) e m = λ more grown d. refl
 idle w other e m = same m
 
 -- an act at a pad of another name
@@ -347,6 +293,9 @@ elsewhere (who.Peer number version) (act.Rejoin old) m = λ more grown d. refl
 elsewhere who.Nobody (act.Mark rev text) m = λ more grown d. refl
 elsewhere (who.Author name) (act.Mark rev text) m = λ more grown d. refl
 elsewhere (who.Peer number version) (act.Mark rev text) m = λ more grown d. refl
+elsewhere who.Nobody (act.Introduce display) m = λ more grown d. refl
+elsewhere (who.Author name) (act.Introduce display) m = λ more grown d. refl
+elsewhere (who.Peer number version) (act.Introduce display) m = λ more grown d. refl
 elsewhere w other m = same m
 
 -- a peer's act
@@ -355,6 +304,7 @@ pub peer_leads : (number : ℕ) (version : Version) (this : Act) (m : Machine) �
 peer_leads number version act.Join m = λ more grown d. refl
 peer_leads number version (act.Rejoin old) m = λ more grown d. refl
 peer_leads number version (act.Mark rev text) m = λ more grown d. refl
+peer_leads number version (act.Introduce display) m = λ more grown d. refl
 peer_leads number version (act.Push op) m = λ more grown d. quiet 0 m (peer_act version (act.Push op) m).1 more refl refl refl
     refl refl grown d
 peer_leads number version other m = same m

@@ -23,7 +23,7 @@ use Rattle.pad_core.specs.declared.request.Request.TheVariants as request
 use Rattle.store_records.specs.Laws.{Had, Left, Life, grown_by, now_at, restarted_by, visit_at}
 use Rattle.store_records.specs.Laws.Had.{last, within, earlier, unticked, unended, before_start}
 use Rattle.store_records.specs.Laws.Life.{begins, asked, ticked, left, starts_again}
-use Rattle.store_records.specs.Records.{Answer, act_records, claim_records, mark_records, rebuilt, records_of, replayed}
+use Rattle.store_records.specs.Records.{Answer, act_records, claim_records, introduction_records, mark_records, rebuilt, records_of, replayed}
 use Rattle.store_records.specs.Records.{unnamed, visit_records}
 use Rattle.store_records.specs.declared.kept_record.Record.{Record}
 use Rattle.store_records.specs.declared.kept_record.Record.TheVariants.{Delivered}
@@ -55,6 +55,13 @@ few_of_mark (who.Author author) rev text at (Ok (Some reply)) = omega arith
 few_of_mark (who.Author author) rev text at (Ok None) = omega arith
 few_of_mark (who.Author author) rev text at (Err e) = omega arith
 
+few_of_introduction : (w : Who) (display : List ℕ) (answer : Answer) → length (introduction_records w display answer) ≤ 1
+few_of_introduction who.Nobody display answer = omega arith
+few_of_introduction (who.Peer number version) display answer = omega arith
+few_of_introduction (who.Author author) display (Ok (Some reply)) = omega arith
+few_of_introduction (who.Author author) display (Ok None) = omega arith
+few_of_introduction (who.Author author) display (Err e) = omega arith
+
 few_of_visit : (w : Who) (answer : Answer) → length (visit_records w answer) ≤ 1
 few_of_visit who.Nobody answer = omega arith
 few_of_visit (who.Peer number version) answer = omega arith
@@ -69,6 +76,7 @@ few_of_act w (act.Rejoin old) at visit answer more = inl (few_of_visit w answer)
 few_of_act w (act.Grant grantee right) at visit (Ok (Some reply)) more = inl (omega arith)
 few_of_act w (act.Hand author) at visit (Ok (Some reply)) more = inl (omega arith)
 few_of_act w (act.Mark rev text) at visit answer more = inl (few_of_mark w rev text at answer)
+few_of_act w (act.Introduce display) at visit answer more = inl (few_of_introduction w display answer)
 few_of_act w other at visit answer more = inr refl
 
 few : (w : Who) (this : Request) (at visit : ℕ) (answer : Answer) (more : List Op) →

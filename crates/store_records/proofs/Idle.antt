@@ -96,6 +96,7 @@ without w (act.Rejoin old) at visit answer = inr refl
 without w (act.Grant grantee right) at visit answer = inr refl
 without w (act.Hand author) at visit answer = inr refl
 without w (act.Mark rev text) at visit answer = inr refl
+without w (act.Introduce display) at visit answer = inr refl
 without w other at visit answer = inl refl
 
 -- an act that leaves the operations unchanged leaves no records, or it may leave some

@@ -1,5 +1,5 @@
 -- The pad that records lead to does not depend on the server's numbers; it has nobody present, and holds no operations.
-use Rattle.std.proofs.Common.{◌≡◌, ◌⊎◌, inl, inr, ℕ, ◌+◌, Bool, true, false, List, [], ◌∷◌, fold, length, Option, Some}
+use Rattle.std.proofs.Common.{◌≡◌, ◌⊎◌, inl, inr, ℕ, Bool, true, false, List, [], ◌∷◌, fold, length, Option, Some}
 use Rattle.std.proofs.Common.{None, Result, Ok, Err, ◌&&◌, refl, sym, ap, ◌∙◌, subst}
 use Rattle.pad_model.specs.Checked.{is_name}
 use Rattle.op_log.specs.Made.{Made, nothing_made}
@@ -12,6 +12,9 @@ use Rattle.rights.specs.declared.right.Right.{Right}
 use Rattle.presence.specs.Presence.{Presence, spent_refusal}
 use Rattle.named_revisions.specs.declared.named_revision.NamedRevision.{NamedRevision}
 use Rattle.pad_core.specs.Machine.{Machine, new_owned}
+use Rattle.guests.specs.Book.{introduce}
+use Rattle.guests.specs.Guests.{is_guest}
+use Rattle.guests.specs.declared.guest.Guest.{Guest}
 use Rattle.pad_core.specs.Marks.{named}
 use Rattle.pad_core.specs.Restart.{author_if, delivered_again, restarted}
 use Rattle.pad_core.specs.Times.{timed}
@@ -19,7 +22,7 @@ use Rattle.pad_core.specs.declared.owned.Owned.{Owned}
 use Rattle.store_records.specs.Laws.{restarted_by}
 use Rattle.store_records.specs.Records.{rebuilt, replay, replay_all, replayed, unless_refused}
 use Rattle.store_records.specs.declared.kept_record.Record.{Record}
-use Rattle.store_records.specs.declared.kept_record.Record.TheVariants.{Named, Granted, Handed, Marked, Visited, Delivered}
+use Rattle.store_records.specs.declared.kept_record.Record.TheVariants.{Named, Granted, Handed, Marked, Introduced, Visited, Delivered}
 use Rattle.store_records.proofs.Deliveries.{Given, bare, one_given}
 
 -- who is present on a restarted pad: nobody
@@ -81,6 +84,18 @@ marks this owned log given made true is = (
 )
 marks this owned log given made false is = (Err BadName, Some owned, log, given, made, λ replica limit. rw is refl)
 
+introductions : (this : Guest) (owned : Owned) (log : List Op) (given : Given) (made : Made) (b : Bool) →
+    (is_name this.author && is_guest this.author) ≡ b → Goes (Introduced this) (Some owned) log given made
+introductions this owned log given made true is = (
+  (introduce this owned.guests).0,
+  Some (record owned { guests = (introduce this owned.guests).1 }),
+  log,
+  given,
+  made,
+  λ replica limit. rw is refl,
+)
+introductions this owned log given made false is = (Err BadName, Some owned, log, given, made, λ replica limit. rw is refl)
+
 -- the refusal of a further number after this one, if there is one
 abbrev spent : Given → Option Refusal
 spent given = spent_refusal (nobody 0 given)
@@ -106,6 +121,9 @@ goes (Handed author) None log given made = (Err NoPad, None, log, given, made, �
 goes (Handed author) (Some owned) log given made = hands author owned log given made (is_name author) refl
 goes (Marked this) None log given made = (Err NoPad, None, log, given, made, λ replica limit. refl)
 goes (Marked this) (Some owned) log given made = marks this owned log given made (is_name this.author) refl
+goes (Introduced this) None log given made = (Err NoPad, None, log, given, made, λ replica limit. refl)
+goes (Introduced this) (Some owned) log given made =
+    introductions this owned log given made (is_name this.author && is_guest this.author) refl
 goes (Visited author) None log given made = (Err NoPad, None, log, given, made, λ replica limit. refl)
 goes (Visited author) (Some owned) log given made = visits author owned log given made (spent given) refl
 goes (Delivered at visit op) o log given made = ((delivered_again op log).0, o, (delivered_again op log).1, given, timed at visit log (delivered_again op log).1 made, λ replica limit. refl)

@@ -1,5 +1,5 @@
 -- The records of a request lead from the restarted pad before it to the restarted pad after it.
-use Rattle.std.proofs.Common.{◌≡◌, inl, inr, ℕ, ◌+◌, true, not, List, [], ◌∷◌}
+use Rattle.std.proofs.Common.{◌≡◌, inl, inr, ℕ, true, not, List, [], ◌∷◌}
 use Rattle.std.proofs.Common.{Option, Some, None, Result, Ok, Err, bytes_eq, unwrap_or, refl, sym, ap, ◌∙◌, subst, fold}
 use Rattle.pad_model.specs.Checked.{is_name}
 use Rattle.op_log.specs.Made.{Made}
@@ -38,7 +38,8 @@ use Rattle.store_records.specs.declared.kept_record.Record.{Record}
 use Rattle.store_records.specs.declared.kept_record.Record.TheVariants as kept
 use Rattle.store_records.proofs.Deliveries.{Given, bare, given_on, one_given, quiet}
 use Rattle.store_records.proofs.Numbers.{bare_stays}
-use Rattle.store_records.proofs.Acts.{Leads, author_leads, either, elsewhere, idle, peer_leads}
+use Rattle.store_records.proofs.Acts.{author_leads, elsewhere, idle, peer_leads}
+use Rattle.store_records.proofs.Leading.{Leads, either}
 
 abbrev machine : Option Owned → ℕ → List Op → List Op → Presence → ℕ → Made → Machine
 machine o replica log held p clock made = record {

@@ -5,7 +5,7 @@ use Rattle.pad_core.specs.declared.act.Act.TheVariants as act
 use Rattle.pad_core.specs.declared.request.Request.{Request}
 use Rattle.pad_core.specs.declared.request.Request.TheVariants as request
 
--- an act may leave records: it counts a visit, changes a right or the owner, names a revision, or makes or
+-- an act may leave records: it counts a visit, changes a right or the owner, names a revision or a guest, or makes or
 -- takes an operation
 abbrev pub is_kept : Act → Bool
 is_kept act.Join = true
@@ -13,6 +13,7 @@ is_kept (act.Rejoin old) = true
 is_kept (act.Grant grantee right) = true
 is_kept (act.Hand author) = true
 is_kept (act.Mark rev text) = true
+is_kept (act.Introduce display) = true
 is_kept (act.Insert rev at text) = true
 is_kept (act.Delete rev at len) = true
 is_kept (act.Edit rev changes) = true

@@ -22,6 +22,7 @@ pub fn replay<S: Sequence>(alloc: Global, pad: &mut Pad<S>, kept: Record) -> Res
         Record::Granted { grantee, right } => pad.restore_grant(&grantee, right),
         Record::Handed { author } => pad.restore_hand(&author),
         Record::Marked { named } => pad.restore_mark(&named),
+        Record::Introduced { guest } => pad.restore_introduction(&guest),
         Record::Visited { author } => pad.restore_visit(alloc, author.as_ref()),
         Record::Delivered { at, visit, op } => pad.restore_operation(alloc, op, at, visit),
     }

@@ -1,4 +1,5 @@
 //! One record of a pad.
+use guests::Guest;
 use named_revisions::NamedRevision;
 use pad_model::{Name, Op};
 use rights::{Grantee, Right};
@@ -25,6 +26,10 @@ pub enum Record {
     /// A revision was given a name.
     Marked {
         named: NamedRevision,
+    },
+    /// A guest was given a display name.
+    Introduced {
+        guest: Guest,
     },
     /// A visit number was given to an author. None: nobody knows to whom, since the file of an earlier version does not say.
     Visited {

@@ -27,6 +27,7 @@ fn is_kept(act: &Act) -> bool
         | Act::Grant { .. }
         | Act::Hand { .. }
         | Act::Mark { .. }
+        | Act::Introduce { .. }
         | Act::Insert { .. }
         | Act::Delete { .. }
         | Act::Edit { .. }

@@ -1,10 +1,11 @@
 //! The records that a request at a cell leaves.
 ghost use Rattle.std.specs.Prelude.{◌≡◌, [], ◌∷◌, IfOk, map};
-ghost use Rattle.store_records.specs.Records.{act_records, claim_records, mark_records, visit_records};
+ghost use Rattle.store_records.specs.Records.{act_records, claim_records, introduction_records, mark_records, visit_records};
 ghost use Rattle.store_records.specs.Records as records_spec;
 ghost use Rattle.store_records.specs.declared.kept_record.Record.TheVariants as variant;
 
 use crate::kept_record::Record;
+use guests::Guest;
 use named_revisions::NamedRevision;
 use pad_core::{Act, Reply, Request};
 use pad_model::{Name, Op, Refusal, Text, Who};
@@ -79,6 +80,7 @@ fn records_of_act(
             },
         ),
         (Act::Mark { rev, text }, _) => records_of_mark(alloc, who, *rev, text, at, answer),
+        (Act::Introduce { display }, _) => records_of_introduction(alloc, who, display, answer),
         _ => delivered(alloc, at, visit, more),
     }
 }
@@ -118,6 +120,25 @@ fn records_of_mark(
         text: text.clone()?,
     };
     one(alloc, Record::Marked { named })
+}
+
+fn records_of_introduction(
+    alloc: Global,
+    who: &Who,
+    display: &Text,
+    answer: &Result<Option<Reply>, Refusal>,
+) -> Result<Vec<Record>, AllocError>
+    ensures { IfOk result (λ records. records.items
+        ≡ introduction_records who.now display.now answer.now) }
+{
+    let (Who::Author(guest), Ok(Some(_))) = (who, answer) else {
+        return Ok(Vec::new(alloc));
+    };
+    let guest = Guest {
+        author: guest.clone()?,
+        display: display.clone()?,
+    };
+    one(alloc, Record::Introduced { guest })
 }
 
 fn one(alloc: Global, kept: Record) -> Result<Vec<Record>, AllocError>

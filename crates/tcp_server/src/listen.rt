@@ -2,7 +2,7 @@
 ghost use Rattle.std.specs.Prelude.{◌≡◌, ◌≤◌, [], None, IfOk};
 ghost use Rattle.server_core.specs.declared.limits.TheConstants.{MAX_CELLS};
 
-use crate::listeners::listen_at;
+use crate::listeners::{Listeners, listen_at};
 use crate::numbers_page::with_numbers;
 use crate::opened::{Opened, open_pads};
 use crate::other_threads::{Ends, start_exchange, start_help, start_sending, start_status};
@@ -55,9 +55,20 @@ where
 {
     let (watching, reading) = (files.clone()?, files.clone()?);
     let (opened, bytes) = open_pads(rt, files, asked, path)?;
-    let watch = Watch::new(watching, path, bytes, asked.any_user);
+    let watch = Watch::new(watching, path, bytes, asked.any_user, asked.guests);
     let board = StatusBoard::new(reading, build, opened.keeper.as_ref());
-    let has_stopped = serve_opened(rt, &opened, asked, address, pages, watch, &board)?;
+    match serve_opened(rt, &opened, asked, address, pages, watch, &board) {
+        Ok(has_stopped) => outcome(&opened, asked, has_stopped),
+        Err(error) => Err(error),
+    }
+}
+
+/// What a server that has ended says of its standby, its store and its workers.
+fn outcome<'a>(
+    opened: &Opened,
+    asked: Settings<'a>,
+    has_stopped: bool,
+) -> Result<(), ServingError<'a>> {
     match asked.standby {
         Some(StandbyPeer { number, .. }) if opened.has_lost_standby() => {
             return Err(ServingError::StandbyLost { number });
@@ -89,30 +100,76 @@ where
         + Sync
         + Eprint,
 {
-    let parts = site_parts(rt.alloc(), asked, pages, opened)?;
     let named = opened.named_pads(rt)?;
-    let mut listeners = listen_at(rt, asked, address)?;
-    let (door, status_end) = open_door(rt, listeners.status.take())?;
-    let SetUp {
-        hub,
-        acceptor,
-        workers,
-    } = make_threads(rt, opened, asked, listeners)?;
-    hub.counts().pads.set(named);
+    let parts = site_parts(rt.alloc(), asked, pages, opened)?;
+    let listeners = listen_at(rt, asked, address)?;
     let site = Site {
         pages: parts.pages.as_slice(),
         origins: parts.origins.as_slice(),
         users: users_in(&parts),
     };
+    serve_site(rt, opened, asked, site, listeners, watch, board, named)
+}
+
+/// The same for a site, at these listeners and with this number of named pads.
+fn serve_site<R>(
+    rt: &R,
+    opened: &Opened,
+    asked: Settings<'_>,
+    site: Site<'_>,
+    mut listeners: Listeners,
+    watch: Watch<'_>,
+    board: &StatusBoard<'_>,
+    named: u64,
+) -> Result<bool, ServingError<'static>>
+where
+    R: Runtime<A = Global, File = File>
+        + Net<Listener = TcpListener, Stream = TcpStream>
+        + Threads
+        + Wait
+        + Sync
+        + Eprint,
+{
+    let (door, status_end) = open_door(rt, listeners.status.take())?;
+    let made = make_threads(rt, opened, asked, listeners)?;
+    made.hub.counts().pads.set(named);
     let status = StatusThread {
         board,
         door,
         end: status_end.as_ref(),
     };
-    serve_row(
+    serve_made(rt, opened, asked, site, made, watch, status)
+}
+
+/// The same with the threads that were made.
+fn serve_made<R>(
+    rt: &R,
+    opened: &Opened,
+    asked: Settings<'_>,
+    site: Site<'_>,
+    made: SetUp,
+    watch: Watch<'_>,
+    status: StatusThread<'_, '_>,
+) -> Result<bool, ServingError<'static>>
+where
+    R: Runtime<A = Global, File = File>
+        + Net<Listener = TcpListener, Stream = TcpStream>
+        + Threads
+        + Wait
+        + Sync
+        + Eprint,
+{
+    let SetUp {
+        hub,
+        acceptor,
+        workers,
+    } = made;
+    match serve_row(
         rt, opened, &hub, asked, site, acceptor, workers, watch, status,
-    )?;
-    Ok(hub.has_stopped())
+    ) {
+        Ok(()) => Ok(hub.has_stopped()),
+        Err(error) => Err(error),
+    }
 }
 
 /// The parts of a site that are lent to the workers.

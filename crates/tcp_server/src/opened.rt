@@ -84,64 +84,145 @@ where
     R: Runtime<A = Global, File = File> + Threads + Wait + Eprint + Sync,
     requires { (1 ≤ asked.replica) × (asked.cells ≤ MAX_CELLS) }
 {
-    let (accounts, bytes) = read_accounts(rt, path)?;
-    let accounts = accounts.with_any_user(asked.any_user);
-    warn_of_tokens(rt, path, bytes.as_slice());
-    if let Some(StandbyPeer { number, .. }) = asked.standby {
-        if !accounts.peers().iter().any(|peer| peer.number == number) {
-            return Err(ServingError::NoPeer { number });
-        }
+    let (accounts, bytes) = accounts_of(rt, asked, path)?;
+    match open_with(rt, files, asked, accounts) {
+        Ok(opened) => Ok((opened, bytes)),
+        Err(error) => Err(error),
     }
-    let size = Size {
-        cells: asked.cells,
-        seats: seats_for(rt, asked, accounts.peers().len()),
+}
+
+// The accounts of a file, with its bytes. The standby of the settings has to have a line in it.
+fn accounts_of<'a, R>(
+    rt: &R,
+    asked: Settings<'a>,
+    path: &'a str,
+) -> Result<(Accounts, Vec<u8>), ServingError<'a>>
+where
+    R: Runtime<A = Global, File = File> + Eprint,
+{
+    let (accounts, bytes) = read_accounts(rt, path)?;
+    let accounts = accounts
+        .with_any_user(asked.any_user)
+        .with_guests(asked.guests);
+    warn_of_tokens(rt, path, bytes.as_slice());
+    match unknown_standby(asked, &accounts) {
+        Some(number) => Err(ServingError::NoPeer { number }),
+        None => Ok((accounts, bytes)),
+    }
+}
+
+// The number of the settings' standby, if the accounts have no such peer.
+fn unknown_standby(asked: Settings<'_>, accounts: &Accounts) -> Option<u16> {
+    let StandbyPeer { number, .. } = asked.standby?;
+    if accounts.peers().iter().any(|peer| peer.number == number) {
+        None
+    } else {
+        Some(number)
+    }
+}
+
+// The pads of the settings' store, or empty ones without it, for these accounts.
+fn open_with<'a, R>(
+    rt: &R,
+    files: HostRuntime,
+    asked: Settings<'a>,
+    accounts: Accounts,
+) -> Result<Opened, ServingError<'a>>
+where
+    R: Runtime<A = Global, File = File> + Threads + Wait + Eprint + Sync,
+    requires { (1 ≤ asked.replica) × (asked.cells ≤ MAX_CELLS) }
+{
+    let seats = seats_for(rt, asked, accounts.peers().len());
+    let row = match asked.store {
+        Some(folder) => stored_row(rt, files, asked, folder, seats),
+        None => free_row(rt.alloc(), asked, seats),
     };
-    let Some(folder) = asked.store else {
-        let cells = open_row(
-            rt.alloc(),
-            asked.replica,
-            asked.present,
-            size.cells,
-            size.seats,
-        )?;
-        let mut revisions = Vec::new(rt.alloc());
-        revisions.resize(cells.len(), 0)?;
-        let opened = open_row_of(rt, cells, revisions, Vec::new(rt.alloc()), None, accounts)?;
-        return Ok((opened, bytes));
-    };
+    match row {
+        Ok(row) => Ok(open_row_of(rt, row, accounts)?),
+        Err(error) => Err(error),
+    }
+}
+
+// The pads of a server, with the keeper of their files.
+#[derive(Drop)]
+struct OpenedRow {
+    cells: Vec<SharedPad<BlockSeq>>,
+    revisions: Vec<u64>,
+    numbers: Vec<u16>,
+    keeper: Option<Keeper>,
+}
+
+// The pads of a store, with this number of seats at each.
+fn stored_row<'a, R>(
+    rt: &R,
+    files: HostRuntime,
+    asked: Settings<'a>,
+    folder: &'a str,
+    seats: u32,
+) -> Result<OpenedRow, ServingError<'a>>
+where
+    R: Runtime<A = Global, File = File> + Threads + Wait + Eprint + Sync,
+    requires { 1 ≤ asked.replica }
+{
     let owner = Owner::new(asked.replica, asked.new_replica, asked.present);
     let confirm = asked.standby.map(|standby| standby.confirm);
+    let size = Size {
+        cells: asked.cells,
+        seats,
+    };
     let Stored {
         cells,
         revisions,
         numbers,
         keeper,
     } = restore(rt, files, folder, &owner, size, confirm)?;
-    let opened = open_row_of(rt, cells, revisions, numbers, Some(keeper), accounts)?;
-    Ok((opened, bytes))
-}
-
-// Makes the `Opened` of a server with this row.
-fn open_row_of<R: AllocGlobal + Wait>(
-    rt: &R,
-    cells: Vec<SharedPad<BlockSeq>>,
-    revisions: Vec<u64>,
-    numbers: Vec<u16>,
-    keeper: Option<Keeper>,
-    accounts: Accounts,
-) -> Result<Opened, Refusal> {
-    let shared = shared_parts(rt, cells.as_slice(), accounts.peers().len())?;
-    Ok(Opened {
+    Ok(OpenedRow {
         cells,
-        names: shared.names,
         revisions,
         numbers,
-        keeper,
-        accounts,
-        exchange: shared.exchange,
-        stop: shared.stop,
-        end: shared.end,
+        keeper: Some(keeper),
     })
+}
+
+// Pads without names, with this number of seats at each.
+fn free_row(
+    alloc: Global,
+    asked: Settings<'_>,
+    seats: u32,
+) -> Result<OpenedRow, ServingError<'static>>
+    requires { (1 ≤ asked.replica) × (asked.cells ≤ MAX_CELLS) }
+{
+    let mut revisions = Vec::new(alloc);
+    revisions.resize(asked.cells as usize, 0)?;
+    let cells = open_row(alloc, asked.replica, asked.present, asked.cells, seats)?;
+    Ok(OpenedRow {
+        cells,
+        revisions,
+        numbers: Vec::new(alloc),
+        keeper: None,
+    })
+}
+
+// Makes the `Opened` of a server with these pads.
+fn open_row_of<R: AllocGlobal + Wait>(
+    rt: &R,
+    row: OpenedRow,
+    accounts: Accounts,
+) -> Result<Opened, Refusal> {
+    match shared_parts(rt, row.cells.as_slice(), accounts.peers().len()) {
+        Ok(shared) => Ok(Opened {
+            cells: row.cells,
+            names: shared.names,
+            revisions: row.revisions,
+            numbers: row.numbers,
+            keeper: row.keeper,
+            accounts,
+            exchange: shared.exchange,
+            stop: shared.stop,
+            end: shared.end,
+        }),
+        Err(refusal) => Err(refusal),
+    }
 }
 
 // The state that the threads of a server share besides its pads.

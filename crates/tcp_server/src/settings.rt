@@ -48,6 +48,8 @@ pub struct Settings<'a> {
     pub trusted_proxies: Option<&'a str>,
     /// True if any user whom a proxy names is an author, even one who has no line in the accounts file.
     pub any_user: bool,
+    /// True if guests may log in, who have no line in the accounts file.
+    pub guests: bool,
     /// The address where operators ask for the status.
     pub status: Option<&'a str>,
 }

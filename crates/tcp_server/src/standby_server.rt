@@ -7,6 +7,7 @@ use crate::serving_error::ServingError;
 use accounts_file::read_accounts;
 use log::{error, info, warn};
 use server_log::ServerLog;
+use sessions::Accounts;
 use standby::{CopyingSeat, Left, SocketConversation, StandbyConversation, StandbyDoor};
 use std::alloc::Global;
 use std::fs::File;
@@ -58,26 +59,66 @@ where
         + Eprint,
     requires { 1 ≤ asked.replica }
 {
-    let (accounts, _bytes) = read_accounts(rt, path)?;
     let number = asked.main;
-    if !accounts.peers().iter().any(|peer| peer.number == number) {
-        return Err(ServingError::NoPeer { number });
-    }
-    let owner = Owner::new(asked.replica, false, asked.present);
-    let mut store = StandbyStore::open(rt, files, asked.store, &owner)?;
-    let listener = listen_alone(rt, address)?;
+    let accounts = accounts_with(rt, path, number)?;
     let door = StandbyDoor {
         accounts: &accounts,
         main: number,
         own: asked.replica,
     };
-    match copy_until_promoted(rt, &mut store, door, listener)? {
+    keep_copies(rt, files, asked, address, door)
+}
+
+// The accounts of a file, which have to have this peer.
+fn accounts_with<'a, R>(rt: &R, path: &'a str, number: u16) -> Result<Accounts, ServingError<'a>>
+where
+    R: Runtime<A = Global, File = File> + Eprint,
+{
+    let (accounts, _bytes) = read_accounts(rt, path)?;
+    if accounts.peers().iter().any(|peer| peer.number == number) {
+        Ok(accounts)
+    } else {
+        Err(ServingError::NoPeer { number })
+    }
+}
+
+// Opens the store and the address, and keeps copies until the standby is promoted.
+fn keep_copies<'a, R>(
+    rt: &R,
+    files: HostRuntime,
+    asked: StandbySettings<'a>,
+    address: &'a str,
+    door: StandbyDoor<'_>,
+) -> Result<(), ServingError<'a>>
+where
+    R: Runtime<A = Global, File = File>
+        + Net<Listener = TcpListener, Stream = TcpStream>
+        + Threads
+        + Wait
+        + Sync
+        + Eprint,
+    requires { 1 ≤ asked.replica }
+{
+    let owner = Owner::new(asked.replica, false, asked.present);
+    let mut store = StandbyStore::open(rt, files, asked.store, &owner)?;
+    let listener = listen_alone(rt, address)?;
+    match copy_until_promoted(rt, &mut store, door, listener) {
+        Ok(end) => end_with(rt, asked.store, end),
+        Err(error) => Err(error),
+    }
+}
+
+// Logs why no more copies are taken. It is an error unless the standby is promoted.
+fn end_with<'a, R>(rt: &R, folder: &'a str, end: CopyingEnd) -> Result<(), ServingError<'a>>
+where
+    R: Clock + Eprint,
+{
+    match end {
         CopyingEnd::Promoted => {
             info!(ServerLog(rt); "this standby is promoted: it takes no more copies, and serves the pads itself");
             Ok(())
         }
         CopyingEnd::StoreFailed(cause) => {
-            let folder = asked.store;
             error!(ServerLog(rt); "the store {folder} cannot be written: {cause}");
             Err(ServingError::StoreFailed { folder })
         }
@@ -162,21 +203,45 @@ where
     R: AllocGlobal + Wait,
 {
     let alloc = rt.alloc();
+    set_up(&stream)?;
+    let timed = stream.try_clone()?;
+    let mut visitor = conversation_over(alloc, stream)?;
+    if asks_for_promotion(alloc, door, &timed, &mut visitor)? {
+        return seat.promote(rt, alloc, &mut visitor);
+    }
+    seat.offer(rt, visitor, timed);
+    Ok(false)
+}
+
+// Sets how long the greeting may take.
+fn set_up(stream: &TcpStream) -> io::Result<()> {
     stream.set_nonblocking(false)?;
     stream.set_nodelay(true)?;
     stream.set_read_timeout(Some(Duration::from_secs(GREETING)))?;
-    stream.set_write_timeout(Some(Duration::from_secs(SILENCE)))?;
-    let timed = stream.try_clone()?;
+    stream.set_write_timeout(Some(Duration::from_secs(SILENCE)))
+}
+
+// A conversation over a connection.
+fn conversation_over(alloc: Global, stream: TcpStream) -> Result<SocketConversation, Left> {
     let writer = stream.try_clone()?;
-    let mut visitor = StandbyConversation::new(alloc, stream, writer)?;
+    Ok(StandbyConversation::new(alloc, stream, writer)?)
+}
+
+// Greets a visitor. Returns whether its first request is that this standby is promoted; for others, the time is set after which
+// silence ends the connection.
+fn asks_for_promotion(
+    alloc: Global,
+    door: StandbyDoor<'_>,
+    timed: &TcpStream,
+    visitor: &mut SocketConversation,
+) -> Result<bool, Left> {
     visitor.greet(alloc, door)?;
     timed.set_read_timeout(Some(Duration::from_secs(FIRST_REQUEST)))?;
-    if visitor.asks_for_promotion(alloc)? {
-        return seat.promote(rt, alloc, &mut visitor);
+    let asks = visitor.asks_for_promotion(alloc)?;
+    if !asks {
+        timed.set_read_timeout(Some(Duration::from_secs(SILENCE)))?;
     }
-    timed.set_read_timeout(Some(Duration::from_secs(SILENCE)))?;
-    seat.offer(rt, visitor, timed);
-    Ok(false)
+    Ok(asks)
 }
 
 // Takes copies over one connection after the other, until nobody is let in any more. Returns why the store has failed, if it has.

@@ -26,18 +26,27 @@ pub struct Watch<'a> {
     bytes: Vec<u8>,
     /// True if any user of a proxy is an author.
     any_user: bool,
+    /// True if guests may log in.
+    guests: bool,
     /// True if it could not be read at the last check.
     is_unread: bool,
 }
 
 impl<'a> Watch<'a> {
     /// The state of a file that was read and had these bytes.
-    pub fn new(files: HostRuntime, path: &'a str, bytes: Vec<u8>, any_user: bool) -> Watch<'a> {
+    pub fn new(
+        files: HostRuntime,
+        path: &'a str,
+        bytes: Vec<u8>,
+        any_user: bool,
+        guests: bool,
+    ) -> Watch<'a> {
         Watch {
             files,
             path,
             bytes,
             any_user,
+            guests,
             is_unread: false,
         }
     }
@@ -56,7 +65,7 @@ impl<'a> Watch<'a> {
         if bytes.as_slice() == self.bytes.as_slice() {
             return;
         }
-        match accounts_in(rt.alloc(), bytes.as_slice(), self.any_user) {
+        match accounts_in(rt.alloc(), bytes.as_slice(), self.any_user, self.guests) {
             Ok(accounts) => {
                 warn_of_ports(rt, path, &accounts);
                 warn_of_tokens(rt, path, bytes.as_slice());
@@ -103,11 +112,13 @@ fn accounts_in(
     alloc: Global,
     bytes: &[u8],
     any_user: bool,
+    guests: bool,
 ) -> Result<Arc<Accounts, Global>, AccountsError>
     ensures { IfOk result (λ shared. (read : Accounts) × (accounts_of bytes.now ≡ Ok read)
-        × (arc_value shared ≡ record read { any_user = any_user })) }
+        × (arc_value shared ≡ record read { any_user = any_user; guests = guests })) }
 {
-    let accounts = Accounts::read(alloc, bytes)?.with_any_user(any_user);
+    let read = Accounts::read(alloc, bytes)?;
+    let accounts = read.with_any_user(any_user).with_guests(guests);
     match Arc::new(alloc, accounts) {
         Ok(shared) => Ok(shared),
         Err(_) => Err(AccountsError::Memory),

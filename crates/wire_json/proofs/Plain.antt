@@ -25,7 +25,7 @@ use Rattle.wire_json.specs.Forms.{number_data, parent_data, span_data, counted_d
 use Rattle.wire_json.specs.Operations.{part_data, op_data}
 use Rattle.wire_json.specs.Peers.{peer_request, pull_request, vector_request, push_request}
 use Rattle.wire_json.specs.Requests.{op_of}
-use Rattle.wire_json.specs.Replies.{run_data, piece_data, shown_data, entry_data, present_data, grant_data, mark_data, listed_data, person_data, pad_data}
+use Rattle.wire_json.specs.Replies.{run_data, piece_data, shown_data, entry_data, present_data, grant_data, guest_data, mark_data, listed_data, person_data, pad_data}
 use Rattle.wire_json.specs.Replies.{outcome_data, reply_data}
 
 -- a value holds no float, and is nested at most this many levels deep
@@ -132,6 +132,9 @@ pad_of (pad.Rights now rights) =
     record { floatless = rw all.floatless refl; shallow = omega (arith, all.shallow) }
 pad_of (pad.Marks now marks) =
     let all = each_of mark_data 1 (λ mark. record { floatless = refl; shallow = lit≤ tt }) marks in
+    record { floatless = rw all.floatless refl; shallow = omega (arith, all.shallow) }
+pad_of (pad.Guests now guests) =
+    let all = each_of guest_data 1 (λ guest. record { floatless = refl; shallow = lit≤ tt }) guests in
     record { floatless = rw all.floatless refl; shallow = omega (arith, all.shallow) }
 pad_of (pad.Vector now seen) =
     let all = seen_of seen in

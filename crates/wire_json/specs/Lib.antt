@@ -7,4 +7,5 @@ pub mod Reading
 pub mod Requests
 pub mod Lines
 pub mod Peers
+pub mod Guests
 pub mod Laws

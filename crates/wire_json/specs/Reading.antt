@@ -16,7 +16,7 @@ use Rattle.pad_model.specs.declared.who.Version.{Version}
 use Rattle.pad_model.specs.declared.who.Version.TheVariants as version
 use Rattle.rights.specs.declared.grantee.Grantee.{Grantee}
 use Rattle.rights.specs.declared.right.Right.{Right}
-use Rattle.wire_json.specs.Words.{granted_by, grantee_of}
+use Rattle.wire_json.specs.Words.{granted_by, grantee_of, invited_by}
 
 -- what is expected was read; or nothing is expected, and the result is NotRequest
 abbrev pub IsForm : {A : Type 0} → Option A → Result A Refusal → Type 0
@@ -186,6 +186,10 @@ grantee_in d = option_map grantee_of (name_in d)
 -- the right to grant, or nothing to revoke it
 abbrev pub right_in : Data → Option (Option Right)
 right_in d = option_and_then granted_by (name_in d)
+
+-- the right of an invitation
+abbrev pub invited_in : Data → Option Right
+invited_in d = option_and_then invited_by (name_in d)
 
 -- the version with a number, or version 1 if there is none
 abbrev pub version_of : Option ℕ → Option Version

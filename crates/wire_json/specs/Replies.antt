@@ -5,6 +5,7 @@ use Rattle.serde_json.specs.Data.{Data, boolean, null, string}
 use Rattle.serde_json.specs.Read.{read}
 use Rattle.serde_json.specs.Written.{compact_text}
 use Rattle.comments.specs.declared.show.Shown.{Shown}
+use Rattle.guests.specs.declared.guest.Guest.{Guest}
 use Rattle.rights.specs.declared.book.Grant.{Grant}
 use Rattle.named_revisions.specs.declared.named_revision.NamedRevision.{NamedRevision}
 use Rattle.pad_model.specs.Refusals.{code_of, name_of}
@@ -76,6 +77,11 @@ mark_data mark = fields_data
     ∷ (codes "rev", number_data mark.rev)
     ∷ (codes "text", text_data mark.text) ∷ [])
 
+-- a guest with its display name
+abbrev pub guest_data : Guest → Data
+guest_data guest =
+    fields_data ((codes "author", string guest.author) ∷ (codes "name", text_data guest.display) ∷ [])
+
 -- a pad in a list of pads: its name, the right on it and its present revision
 abbrev pub listed_data : Listed → Data
 listed_data pad = list_data (string pad.name ∷ string (right_word pad.right) ∷ number_data pad.now
@@ -130,6 +136,7 @@ pad_data (pad.Birth now author rev at) =
 pad_data (pad.Who now who) = pad_answer now ((codes "who", each_data present_data who) ∷ [])
 pad_data (pad.Rights now rights) = pad_answer now ((codes "rights", each_data grant_data rights) ∷ [])
 pad_data (pad.Marks now marks) = pad_answer now ((codes "marks", each_data mark_data marks) ∷ [])
+pad_data (pad.Guests now guests) = pad_answer now ((codes "guests", each_data guest_data guests) ∷ [])
 pad_data (pad.Vector now seen) = pad_answer now ((codes "seen", seen_data seen) ∷ [])
 pad_data (pad.Pushed now state released dropped) =
     pad_answer now ((codes "dropped", number_data dropped) ∷ (codes "released", number_data released)

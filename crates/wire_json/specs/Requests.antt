@@ -3,6 +3,7 @@ use Rattle.std.specs.Prelude.{ℕ, ◌==◌, if◌then◌else◌, Bool, true, fa
 use Rattle.std.specs.Prelude.{option_map, option_and_then, unwrap_or, is_some, bytes_eq, codes}
 use Rattle.serde_json.specs.Data.{Data}
 use Rattle.serde_json.specs.Find.{get}
+use Rattle.guests.specs.Guests.{guest_name, link_name}
 use Rattle.pad_model.specs.Checked.{is_within}
 use Rattle.pad_model.specs.declared.op.Op.{Op}
 use Rattle.pad_model.specs.declared.op.OpName.{OpName}
@@ -19,11 +20,15 @@ use Rattle.pad_core.specs.declared.reply.Kind.TheVariants as kind
 use Rattle.pad_core.specs.declared.request.TheConstants.{MAX_PEOPLE_ASKED}
 use Rattle.pad_core.specs.declared.request.Request.{Request}
 use Rattle.pad_core.specs.declared.request.Request.TheVariants as request
+use Rattle.rights.specs.declared.grantee.Grantee.{Grantee}
+use Rattle.rights.specs.declared.grantee.Grantee.TheVariants.{Author}
+use Rattle.rights.specs.declared.right.Right.{Right}
 use Rattle.wire_json.specs.declared.act_words.ActWord.{ActWord}
 use Rattle.wire_json.specs.declared.act_words.ActWord.TheVariants as act_word
+use Rattle.wire_json.specs.Guests.{is_plain, is_secret, is_token}
 use Rattle.wire_json.specs.Words.{kind_of_word, act_word_of}
 use Rattle.wire_json.specs.Reading.{of_two, of_three, of_four, field, null_or, optional, list_in, number_in, truth_in, name_in}
-use Rattle.wire_json.specs.Reading.{grantee_in, if_there, within_in, text_in, stamp_in, op_name_in, span_in, seen_in, right_in, version_of}
+use Rattle.wire_json.specs.Reading.{grantee_in, if_there, invited_in, within_in, text_in, stamp_in, op_name_in, span_in, seen_in, right_in, version_of}
 
 -- the part of a kind
 abbrev pub part_of : Kind → Data → Option Part
@@ -93,6 +98,18 @@ abbrev pub joining : Option ℕ → Act
 joining None = act.Join
 joining (Some old) = act.Rejoin old
 
+-- the name of the link with a secret
+abbrev pub linked : List ℕ → Option Grantee
+linked secret = if is_secret secret then Some (Author (link_name secret)) else None
+
+-- an invitation: a link is granted a right
+abbrev pub inviting : Grantee → Right → Act
+inviting link right = act.Grant link (Some right)
+
+-- a guest's display name, which has no control character
+abbrev pub introducing : List ℕ → Option Act
+introducing display = if is_plain display then Some (act.Introduce display) else None
+
 -- the act that its word names, from the fields that it takes
 abbrev pub act_of : ActWord → Data → Option Act
 act_of act_word.Join d = option_map joining (optional number_in (codes "instead") d)
@@ -124,10 +141,14 @@ act_of act_word.Birth d = of_two act.Birth (field number_in (codes "rev") d) (fi
 act_of act_word.Caret d = of_two act.Caret (field number_in (codes "rev") d) (field number_in (codes "at") d)
 act_of act_word.Who d = Some act.Who
 act_of act_word.Grant d = of_two act.Grant (field grantee_in (codes "author") d) (field right_in (codes "right") d)
+act_of act_word.Invite d =
+    of_two inviting (option_and_then linked (field name_in (codes "secret") d)) (field invited_in (codes "right") d)
 act_of act_word.Hand d = option_map act.Hand (field name_in (codes "author") d)
 act_of act_word.Rights d = Some act.Rights
 act_of act_word.Mark d = of_two act.Mark (field number_in (codes "rev") d) (field text_in (codes "text") d)
 act_of act_word.Marks d = Some act.Marks
+act_of act_word.Introduce d = option_and_then introducing (field text_in (codes "as") d)
+act_of act_word.Guests d = Some act.Guests
 act_of act_word.Vector d = Some act.Vector
 act_of act_word.Push d = option_map act.Push (field op_in (codes "op") d)
 act_of act_word.Pull d =
@@ -137,6 +158,14 @@ act_of act_word.Pull d =
 -- a log-in of an author
 abbrev pub hello_in : Data → Option Request
 hello_in d = of_two request.Hello (field name_in (codes "name") d) (field name_in (codes "token") d)
+
+-- a log-in under the name that a guest's token makes
+abbrev pub guest_of : List ℕ → Option Request
+guest_of token = if is_token token then Some (request.Hello (guest_name token) token) else None
+
+-- a log-in of a guest
+abbrev pub guest_in : Data → Option Request
+guest_in d = option_and_then guest_of (field name_in (codes "token") d)
 
 -- a log-in of a peer
 abbrev pub peer_in : Data → Option Request
@@ -165,6 +194,7 @@ on_in word d = of_two request.On (field name_in (codes "pad") d) (option_and_the
 abbrev pub asked : List ℕ → Data → Option Request
 asked word d =
     if bytes_eq word (codes "hello") then hello_in d
+    else if bytes_eq word (codes "guest") then guest_in d
     else if bytes_eq word (codes "peer") then peer_in d
     else if bytes_eq word (codes "create") then create_in d
     else if bytes_eq word (codes "pads") then Some request.Pads

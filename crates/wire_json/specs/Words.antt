@@ -59,6 +59,14 @@ granted_by word =
     else if bytes_eq word (codes "own") then Some (Some right.Own)
     else None
 
+-- the right that a word gives to a link: to read, comment or write
+abbrev pub invited_by : List ℕ → Option Right
+invited_by word =
+    if bytes_eq word (codes "read") then Some right.Read
+    else if bytes_eq word (codes "comment") then Some right.Comment
+    else if bytes_eq word (codes "write") then Some right.Write
+    else None
+
 -- the kind that a word names
 abbrev pub kind_of_word : List ℕ → Option Kind
 kind_of_word word =
@@ -84,8 +92,10 @@ act_words =
     ∷ (codes "comments", act_word.Comments) ∷ (codes "changes", act_word.Changes) ∷ (codes "revs", act_word.Revs)
     ∷ (codes "entries", act_word.Entries) ∷ (codes "times", act_word.Times) ∷ (codes "birth", act_word.Birth)
     ∷ (codes "caret", act_word.Caret) ∷ (codes "who", act_word.Who) ∷ (codes "grant", act_word.Grant)
-    ∷ (codes "hand", act_word.Hand) ∷ (codes "rights", act_word.Rights) ∷ (codes "mark", act_word.Mark)
-    ∷ (codes "marks", act_word.Marks) ∷ (codes "vector", act_word.Vector) ∷ (codes "push", act_word.Push)
+    ∷ (codes "invite", act_word.Invite) ∷ (codes "hand", act_word.Hand) ∷ (codes "rights", act_word.Rights)
+    ∷ (codes "mark", act_word.Mark)
+    ∷ (codes "marks", act_word.Marks) ∷ (codes "introduce", act_word.Introduce)
+    ∷ (codes "guests", act_word.Guests) ∷ (codes "vector", act_word.Vector) ∷ (codes "push", act_word.Push)
     ∷ (codes "pull", act_word.Pull) ∷ []
 
 -- the act that a word names

@@ -8,6 +8,7 @@
 mod act_words;
 mod constant_lines;
 mod field;
+mod guest_forms;
 pub mod laws;
 mod list;
 mod number_lines;

@@ -11,6 +11,7 @@ use crate::number_lines::{
 use crate::value_lines::value_line;
 use crate::write_forms::{author_value, op_name_value, seen_value, text_value};
 use comments::Shown;
+use guests::Guest;
 use named_revisions::NamedRevision;
 use pad_core::{LogEntry, PadReply, Present};
 use pad_model::{Author, AuthorRun, Op, OpName, Piece, Seen, Text};
@@ -94,6 +95,9 @@ pub fn pad_line(alloc: Global, reply: &PadReply) -> Result<String, AllocError>
         }
         PadReply::Marks { now, marks } => {
             said_line(alloc, reply, marks_value(alloc, *now, marks.as_slice()))
+        }
+        PadReply::Guests { now, guests } => {
+            said_line(alloc, reply, guests_value(alloc, *now, guests.as_slice()))
         }
         PadReply::Vector { now, seen } => said_line(alloc, reply, vector_value(alloc, *now, seen)),
         PadReply::Pulled { now, ops } => {
@@ -234,6 +238,12 @@ fn marks_value(alloc: Global, now: u64, marks: &[NamedRevision]) -> Result<Value
     ensures { IfOk result (λ v. view v ≡ pad_data (PadReply.Marks now marks.now)) }
 {
     answer_with(alloc, now, "marks", list_value(alloc, marks)?)
+}
+
+fn guests_value(alloc: Global, now: u64, guests: &[Guest]) -> Result<Value, AllocError>
+    ensures { IfOk result (λ v. view v ≡ pad_data (PadReply.Guests now guests.now)) }
+{
+    answer_with(alloc, now, "guests", list_value(alloc, guests)?)
 }
 
 fn vector_value(alloc: Global, now: u64, seen: &Seen) -> Result<Value, AllocError>

@@ -1,19 +1,21 @@
 //! From a JSON value to an act.
 ghost use Rattle.serde_json.specs.View.{view};
 ghost use Rattle.std.specs.Prelude.{◌≡◌, IfOk};
-ghost use Rattle.wire_json.specs.Reading.{IsForm, IsRead, grantee_in, right_in, field};
+ghost use Rattle.wire_json.specs.Reading.{IsForm, IsRead, grantee_in, invited_in, right_in, field};
 ghost use Rattle.wire_json.specs.Words.{grantee_of};
-ghost use Rattle.wire_json.specs.Requests.{act_of, change_of, change_in};
+ghost use Rattle.wire_json.specs.Requests.{act_of, change_of, change_in, linked};
 
 use crate::act_words::ActWord;
 use crate::field::{
     field, flag_field, name_field, number_field, optional_limited_field, optional_number_field,
     str_field, text_field,
 };
+use crate::guest_forms::{is_plain, is_secret};
 use crate::list::{FromJson, list_field};
 use crate::op_read::read_op;
 use crate::read_forms::{op_name_field, seen_field};
-use crate::word::granted_by;
+use crate::word::{granted_by, invited_by};
+use guests::link_name;
 use pad_core::{Act, Change, MAX_BATCH};
 use pad_model::{Name, Refusal};
 use rights::{Grantee, Right};
@@ -180,6 +182,37 @@ fn read_grant(alloc: Global, value: &Value) -> Result<Act, Refusal>
     Ok(Act::Grant { grantee, right })
 }
 
+/// The right of an invitation, which is not to own.
+#[tactic(auto, using(crate::proofs::Fields::invited_of_string))]
+fn invited_field(value: &Value, key: &str) -> Result<Right, Refusal>
+    ensures { IsForm (field invited_in key.now (view value.now)) result }
+{
+    match invited_by(str_field(value, key)?) {
+        Some(right) => Ok(right),
+        None => Err(Refusal::NotRequest),
+    }
+}
+
+/// The name of the link with a secret.
+fn linked(alloc: Global, secret: &str) -> Result<Grantee, Refusal>
+    ensures { IsRead (linked secret.now) result }
+{
+    if is_secret(secret.as_bytes()) {
+        Ok(Grantee::Author(link_name(alloc, secret)?))
+    } else {
+        Err(Refusal::NotRequest)
+    }
+}
+
+/// An invitation grants a right to the name of the link with a secret.
+fn read_invite(alloc: Global, value: &Value) -> Result<Act, Refusal>
+    ensures { IsRead (act_of ActWord.Invite (view value.now)) result }
+{
+    let right = Some(invited_field(value, "right")?);
+    let grantee = linked(alloc, str_field(value, "secret")?)?;
+    Ok(Act::Grant { grantee, right })
+}
+
 fn read_hand(alloc: Global, value: &Value) -> Result<Act, Refusal>
     ensures { IsRead (act_of ActWord.Hand (view value.now)) result }
 {
@@ -193,6 +226,17 @@ fn read_mark(alloc: Global, value: &Value) -> Result<Act, Refusal>
     let rev = number_field(value, "rev")?;
     let text = text_field(alloc, value, "text")?;
     Ok(Act::Mark { rev, text })
+}
+
+fn read_introduce(alloc: Global, value: &Value) -> Result<Act, Refusal>
+    ensures { IsRead (act_of ActWord.Introduce (view value.now)) result }
+{
+    let display = text_field(alloc, value, "as")?;
+    if is_plain(&display) {
+        Ok(Act::Introduce { display })
+    } else {
+        Err(Refusal::NotRequest)
+    }
 }
 
 fn read_push(alloc: Global, value: &Value) -> Result<Act, Refusal>
@@ -264,10 +308,13 @@ pub fn read_act(alloc: Global, word: ActWord, value: &Value) -> Result<Act, Refu
         ActWord::Caret => read_caret(value),
         ActWord::Who => Ok(Act::Who),
         ActWord::Grant => read_grant(alloc, value),
+        ActWord::Invite => read_invite(alloc, value),
         ActWord::Hand => read_hand(alloc, value),
         ActWord::Rights => Ok(Act::Rights),
         ActWord::Mark => read_mark(alloc, value),
         ActWord::Marks => Ok(Act::Marks),
+        ActWord::Introduce => read_introduce(alloc, value),
+        ActWord::Guests => Ok(Act::Guests),
         ActWord::Vector => Ok(Act::Vector),
         ActWord::Push => read_push(alloc, value),
         ActWord::Pull => read_pull(alloc, value),

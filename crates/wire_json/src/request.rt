@@ -4,13 +4,15 @@ ghost use Rattle.serde_json.specs.View.{view};
 ghost use Rattle.wire_json.specs.Lines.{request, value_of};
 ghost use Rattle.wire_json.specs.Reading.{IsForm, IsLine, IsRead};
 ghost use Rattle.wire_json.specs.Words.{act_word_of};
-ghost use Rattle.wire_json.specs.Requests.{request_in, hello_in, peer_in, create_in, people_in, on_in};
+ghost use Rattle.wire_json.specs.Requests.{request_in, guest_in, hello_in, peer_in, create_in, people_in, on_in};
 
 use crate::act_words::{ActWord, act_word_of};
 use crate::field::{name_field, number_field, str_field, word_field};
+use crate::guest_forms::is_token;
 use crate::list::list_field;
 use crate::read_acts::read_act;
 use crate::read_forms::version_field;
+use guests::guest_name;
 use pad_core::{MAX_PEOPLE_ASKED, Request};
 use pad_model::{Items, Name, Refusal};
 use serde_json::Value;
@@ -41,6 +43,7 @@ fn request_of(alloc: Global, value: &Value) -> Result<Request, Refusal>
 {
     match str_field(value, "do")? {
         "hello" => read_hello(alloc, value),
+        "guest" => read_guest(alloc, value),
         "peer" => read_peer(alloc, value),
         "create" => read_create(alloc, value),
         "pads" => Ok(Request::Pads),
@@ -56,6 +59,20 @@ fn read_hello(alloc: Global, value: &Value) -> Result<Request, Refusal>
     let token = str_field(value, "token")?;
     Ok(Request::Hello {
         name: Name::from_str(alloc, name)?,
+        token: Word::from_str(alloc, token)?,
+    })
+}
+
+/// A guest logs in under the name that its token makes.
+fn read_guest(alloc: Global, value: &Value) -> Result<Request, Refusal>
+    ensures { IsRead (guest_in (view value.now)) result }
+{
+    let token = str_field(value, "token")?;
+    if !is_token(token.as_bytes()) {
+        return Err(Refusal::NotRequest);
+    }
+    Ok(Request::Hello {
+        name: guest_name(alloc, token)?,
         token: Word::from_str(alloc, token)?,
     })
 }

@@ -1,6 +1,6 @@
 //! The words for rights, kinds and states on the wire.
 ghost use Rattle.std.specs.Prelude.{◌≡◌};
-ghost use Rattle.wire_json.specs.Words.{right_word, kind_word, state_word, state_of_word, granted_by, kind_of_word};
+ghost use Rattle.wire_json.specs.Words.{right_word, kind_word, state_word, state_of_word, granted_by, invited_by, kind_of_word};
 
 use pad_core::{Kind, Pushed};
 use rights::Right;
@@ -26,6 +26,18 @@ pub fn granted_by(word: &str) -> Option<Option<Right>>
         "comment" => Some(Some(Right::Comment)),
         "write" => Some(Some(Right::Write)),
         "own" => Some(Some(Right::Own)),
+        _ => None,
+    }
+}
+
+/// The right that a word gives to a link.
+pub fn invited_by(word: &str) -> Option<Right>
+    ensures { result ≡ invited_by word.now }
+{
+    match word {
+        "read" => Some(Right::Read),
+        "comment" => Some(Right::Comment),
+        "write" => Some(Right::Write),
         _ => None,
     }
 }

@@ -4,11 +4,12 @@ ghost use Rattle.serde_json.specs.View.{view};
 ghost use Rattle.serde_json.specs.Data.{string};
 ghost use Rattle.wire_json.specs.Forms.{number_data, op_name_data, stamp_data, parent_data, text_data, author_data, seen_data, counted_data, span_data};
 ghost use Rattle.wire_json.specs.Words.{grantee_word};
-ghost use Rattle.wire_json.specs.Replies.{run_data, piece_data, shown_data, entry_data, present_data, grant_data, mark_data, listed_data, person_data};
+ghost use Rattle.wire_json.specs.Replies.{run_data, piece_data, shown_data, entry_data, present_data, grant_data, guest_data, mark_data, listed_data, person_data};
 
 use crate::list::{ToJson, list_value};
 use crate::word::{kind_word, right_word};
 use comments::Shown;
+use guests::Guest;
 use named_revisions::NamedRevision;
 use pad_core::{Listed, LogEntry, Person, Present};
 use pad_model::{Author, AuthorRun, Counted, Name, OpName, Piece, Seen, Span, Stamp, Text};
@@ -216,6 +217,16 @@ impl ToJson for NamedRevision {
         let rev = self.rev;
         let text = text_value(alloc, &self.text)?;
         json!(in alloc; {"at": at, "author": author, "rev": rev, "text": text})
+    }
+}
+
+impl ToJson for Guest {
+    ghost says = { guest_data };
+
+    fn to_json(&self, alloc: Global) -> Result<Value, AllocError> {
+        let author = name_value(alloc, &self.author)?;
+        let display = text_value(alloc, &self.display)?;
+        json!(in alloc; {"author": author, "name": display})
     }
 }
 

@@ -12,6 +12,14 @@ const REQUESTS: &[(&str, &str)] = &[
         r#"Hello { name: Name { text: "ann" }, token: Word { text: "t1" } }"#,
     ),
     (
+        r#"{"do":"guest","token":"k3Zt0Qm8vJx2bN5wYcR7Ag.9hUe_Lr4TqP-d6XoVs1KzA"}"#,
+        r#"Hello { name: Name { text: "guest-duu243qz3z64xpavd3owwngasz" }, token: Word { text: "k3Zt0Qm8vJx2bN5wYcR7Ag.9hUe_Lr4TqP-d6XoVs1KzA" } }"#,
+    ),
+    (
+        r#"{"do":"guest","name":"ann","token":"AAAAAAAAAAAAAAAAAAAAA_.AAAAAAAAAAAAAAAAAAAAA_"}"#,
+        r#"Hello { name: Name { text: "guest-ry5zwiel42qny4emxg5kvte73n" }, token: Word { text: "AAAAAAAAAAAAAAAAAAAAA_.AAAAAAAAAAAAAAAAAAAAA_" } }"#,
+    ),
+    (
         r#"{"do":"peer","number":2,"token":"p2"}"#,
         r#"Peer { number: 2, token: Word { text: "p2" }, version: One }"#,
     ),
@@ -159,6 +167,18 @@ const REQUESTS: &[(&str, &str)] = &[
     (
         r#"{"do":"grant","pad":"p","author":"*","right":"write"}"#,
         r#"On { pad: Name { text: "p" }, act: Grant { grantee: Everyone, right: Some(Write) } }"#,
+    ),
+    (
+        r#"{"do":"invite","pad":"p","secret":"k3Zt0Qm8vJx2bN5wYcR7Ag","right":"write"}"#,
+        r#"On { pad: Name { text: "p" }, act: Grant { grantee: Author(Name { text: "guest-duu243qz3z64x" }), right: Some(Write) } }"#,
+    ),
+    (
+        r#"{"do":"invite","pad":"p","secret":"AAAAAAAAAAAAAAAAAAAAA_","author":"*","right":"comment"}"#,
+        r#"On { pad: Name { text: "p" }, act: Grant { grantee: Author(Name { text: "guest-ry5zwiel42qny" }), right: Some(Comment) } }"#,
+    ),
+    (
+        r#"{"do":"invite","pad":"p","secret":"9hUe_Lr4TqP-d6XoVs1KzA","right":"read"}"#,
+        r#"On { pad: Name { text: "p" }, act: Grant { grantee: Author(Name { text: "guest-foxqwecc42qgd" }), right: Some(Read) } }"#,
     ),
     (
         r#"{"do":"hand","pad":"p","author":"bob"}"#,

@@ -1,5 +1,4 @@
 use Rattle.std.proofs.Common.{rules, ◌∷◌, []}
-use Rattle.pad_core.specs.Demand.{Asks}
 use Rattle.pad_core.specs.declared.act.Change.TheVariants.{Insert}
 use Rattle.pad_core.proofs.edit.refuse_insert.Goals as goal
 

@@ -1,5 +1,5 @@
 -- The loop of `times_at`: the times so far and those of the places that are left are all.
-use Rattle.std.proofs.Common.{◌≡◌, ◌-◌, ◌++◌, ◌≤◌}
+use Rattle.std.proofs.Common.{◌≡◌, ◌-◌, ◌++◌}
 use Rattle.pad_core.specs.Reads.{places_from, times_at}
 use Rattle.pad_core.proofs.reads.times_at.Given as goal
 

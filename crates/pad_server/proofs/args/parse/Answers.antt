@@ -25,6 +25,7 @@ returns-clause-asked c =
     let unproved = one_text-rows (found_of m) (codes "unproved") ∙ ap (one_of (codes "unproved")) rows in
     let logged = one_text-rows (found_of m) (codes "log-access") ∙ ap (one_of (codes "log-access")) rows in
     let anybody = one_text-rows (found_of m) (codes "any-user") ∙ ap (one_of (codes "any-user")) rows in
+    let guests = one_text-rows (found_of m) (codes "guests") ∙ ap (one_of (codes "guests")) rows in
     let renewed = one_text-rows (found_of m) (codes "new-replica") ∙ ap (one_of (codes "new-replica")) rows in
     record {
       replica = gives_number line words m (codes "replica") 1 65535 1 c.replica_of.result rows
@@ -78,6 +79,11 @@ returns-clause-asked c =
         absent = λ e. c.get_flag-5.ensures.none (anybody ∙ e);
         set = λ e. c.get_flag-5.ensures.value (anybody ∙ e);
         unset = λ e. c.get_flag-5.ensures.other (anybody ∙ e);
+      };
+      guests = record {
+        absent = λ e. c.get_flag-6.ensures.none (guests ∙ e);
+        set = λ e. c.get_flag-6.ensures.value (guests ∙ e);
+        unset = λ e. c.get_flag-6.ensures.other (guests ∙ e);
       };
       status = c.get_str-9.ensures ∙ gives_text line words m (codes "status") rows;
     }

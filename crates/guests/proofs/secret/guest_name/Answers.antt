@@ -1,0 +1,7 @@
+use Rattle.std.proofs.Common.{ap, ◌∙◌}
+use Rattle.pad_model.specs.Checked.{is_name}
+use Rattle.guests.proofs.Made.{guest_named}
+use Rattle.guests.proofs.secret.guest_name.Goals as goal
+
+pub name_of-requires : goal.name_of-requires
+name_of-requires c = ap is_name c.guest_bytes.ensures ∙ guest_named c.as_bytes.result.now

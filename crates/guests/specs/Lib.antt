@@ -1,0 +1,4 @@
+-- The definitions that the contracts cite.
+pub mod Book
+pub mod Guests
+pub mod Laws

@@ -132,10 +132,22 @@ def the_rest_is_proved_in_a_clone():
 def the_minute_of_each_proof_is_told():
     repository(says="rt: low proved\nrt: apart NOT PROVED\nrt: high proved\n7 passed, 0 failed\n")
     said = run(".ci/run").stdout.splitlines()
-    wanted = ["full check: tests/quick ended in minute 0", "full check: rt ci ended in minute 0"]
-    want([line for line in said if " ended in minute " in line], wanted, "when the parts ended")
+    ends = [("tests/quick", "2 passed, 0 failed"), ("prove", "7 passed, 0 failed"), ("tests/run", "10 passed, 0 failed")]
+    wanted = [f"full check: {part} ended in minute 0: {counted}" for part, counted in ends]
+    want([line for line in said if " ended in minute " in line], wanted * 2, "when the parts ended, said twice")
     told = "full check: crates, and the minute in which each was proved: low 0,high 0"
-    want([line for line in said if "each was proved" in line], [told], "when the crates were proved")
+    want([line for line in said if "each was proved" in line], [told] * 2, "when the crates were proved")
+
+
+def what_failed_is_told_again_at_the_end():
+    lines = ["".join(f"line {number} of a proof\n" for number in range(100)), "rt: low NOT PROVED\n", "6 passed, 1 failed\n"]
+    repository(quick="one FAILED\n1 passed, 1 failed\n", says="".join(lines), status=1)
+    write("top/tests/pages", part("pages.rt is old\n", 1))
+    said = run(".ci/run").stdout.splitlines()
+    said = said[said.index("Once more, what failed, and when each part ended:") :]
+    for line in ["full check: tests/pages --check FAILED", "one FAILED", "line 99 of a proof", "rt: low NOT PROVED"]:
+        want(line in said, True, f"that the end says: {line}")
+    want("line 80 of a proof" in said, False, "that the end says what came long before a failure")
 
 
 def as_many_crates_are_proved_at_a_time_as_fit():
@@ -285,6 +297,7 @@ TESTS = [
     Test("full check: what fails before the parts counts", what_fails_before_the_parts_counts),
     Test("full check: the rest is proved in a clone", the_rest_is_proved_in_a_clone),
     Test("full check: the minute of each proof is told", the_minute_of_each_proof_is_told),
+    Test("full check: what failed is told again at the end", what_failed_is_told_again_at_the_end),
     Test("full check: as many crates are proved at a time as fit", as_many_crates_are_proved_at_a_time_as_fit),
     Test("full check: a program that was not built is not played", a_program_that_was_not_built_is_not_played),
     Test("full check: edits are left out after the long run", edits_are_left_out_after_the_long_run),

@@ -10,7 +10,7 @@ ROWS = [
     ("bytes of an unfinished line", "event_loop/src/limits.rt", "UNFINISHED"),
     ("clients that are read beyond that", "event_loop/src/limits.rt", "MOST_LONG"),
     ("threads that serve them", "tcp_server/src/threads.rt", "MAX_WORKERS"),
-    ("requests for the page's files at once", "event_loop/src/limits.rt", "PAGE_REQUESTS"),
+    ("requests for the page's files at once", "tcp_server/src/room.rt", "PAGE_REQUESTS"),
     ("bytes in a line over TCP", "wire_lines/src/feed.rt", "MAX_LINE"),
     ("bytes in a message of a WebSocket", "web_wire/src/frames.rt", "LONGEST_MESSAGE"),
     ("pads on a server", "server_core/src/limits.rt", "MAX_CELLS"),

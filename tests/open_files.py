@@ -11,7 +11,9 @@ from sockets import LISTEN, Client, Server
 from stores import STORE, kill, restarted
 
 FULL = {"code": 901, "error": "StoreFull", "ok": False}
-FILES = 48
+TOO_MANY = b'{"code":902,"error":"Full","ok":false}\n'
+FILES = 96
+PADS = 40
 WAITING = 400
 SECONDS = 5
 
@@ -20,39 +22,37 @@ def limited(files):
     return lambda: resource.setrlimit(resource.RLIMIT_NOFILE, (files, files))
 
 
-def use_up(server):
-    """Opens connections that say nothing, until the server has no file for one more, or for a pad."""
-    idle = []
-    while len(os.listdir(f"/proc/{server.process.pid}/fd")) < FILES:
-        idle.append(socket.create_connection(("127.0.0.1", server.port), timeout=5))
-        time.sleep(0.01)
-        if len(idle) > 4 * FILES:
-            raise Failed("the open files were never used up")
-    return idle
+def opened(server, ending=""):
+    """The files that a server has open whose paths end so, and its sockets and all else with no ending."""
+    folder = f"/proc/{server.process.pid}/fd"
+    return [path for path in (os.readlink(f"{folder}/{name}") for name in os.listdir(folder)) if path.endswith(ending)]
+
+
+class Shortage:
+    """A server can open no more files until this ends."""
+
+    def __init__(self, server):
+        self.pid = server.process.pid
+        self.most = resource.prlimit(self.pid, resource.RLIMIT_NOFILE)
+        resource.prlimit(self.pid, resource.RLIMIT_NOFILE, (3, self.most[1]))
+
+    def ends(self):
+        resource.prlimit(self.pid, resource.RLIMIT_NOFILE, self.most)
 
 
 def a_creation_without_a_file_is_refused():
     """Nothing has changed then, all else goes on, and the pad is created when there are files again."""
-    server = Server(f"{STORE} --workers 2", stderr=subprocess.PIPE, preexec_fn=limited(FILES))
+    server = Server(f"{STORE} --workers 2", stderr=subprocess.PIPE)
     ann = server.author("ann")
     ann.does(do="create", pad="p")
-    idle = use_up(server)
+    shortage = Shortage(server)
     ann.wants({"do": "create", "pad": "q"}, FULL)
     ann.wants({"do": "create", "pad": "q"}, FULL)
     ann.does(do="insert", pad="p", rev=0, at=0, text="kept")
     ann.wants({"do": "join", "pad": "q"}, {"code": 300, "error": "NoPad", "ok": False})
     want(os.path.exists("kept/q.pad"), False, "that the refused pad has a file")
-    for client in idle:
-        client.close()
-    end = time.monotonic() + 10
-    while True:
-        answer = ann.ask(do="create", pad="q")
-        if answer["ok"]:
-            break
-        want(answer, FULL, "the answer while there is no file")
-        if time.monotonic() > end:
-            raise Failed("the pad is not created when there are files again")
-        time.sleep(0.05)
+    shortage.ends()
+    ann.does(do="create", pad="q")
     kill(server)
     said = server.process.stderr.read().decode()
     want(said.count("has no file for a new pad"), 1, f"how often it is said: {said!r}")
@@ -61,6 +61,47 @@ def a_creation_without_a_file_is_refused():
     want(ann.does(do="text", pad="p")["text"], "kept", "the text")
     ann.join("q")
     kill(server)
+
+
+def more_pads_than_files():
+    """A server that may open 96 files has a quarter of those that are left for the files of 40 pads, and clients take none of these:
+    all are written in turn, while as many connect as may, and nothing is lost."""
+    server = Server(f"{STORE} --workers 2", preexec_fn=limited(FILES))
+    ann = server.author("ann")
+    for number in range(PADS):
+        ann.does(do="create", pad=f"p{number}")
+    idle = fill(server)
+    for rev in range(5):
+        for number in range(PADS):
+            ann.does(do="insert", pad=f"p{number}", rev=rev, at=rev, text="abcde"[rev])
+    few = len(opened(server, ".pad"))
+    want(4 <= few <= 16, True, f"that some files of pads are open, and not all of 40: {few} are")
+    want(len(opened(server)) < FILES, True, "that not all files are used up")
+    ann.does(do="create", pad="last")
+    kill(server)
+    for client in idle:
+        client.close()
+    server = Server(f"{STORE} --workers 2", preexec_fn=limited(FILES))
+    want(opened(server, ".pad"), [], "the files of pads that are open at the start")
+    ann = server.author("ann", "last")
+    for number in range(PADS):
+        ann.join(f"p{number}")
+        want(ann.does(do="text", pad=f"p{number}")["text"], "abcde", f"the text of pad {number}")
+    kill(server)
+
+
+def fill(server):
+    """Connects until one more is told that there is no room."""
+    idle = []
+    for _ in range(FILES):
+        client = server.connect()
+        client.socket.settimeout(0.3)
+        try:
+            want(client.replies.readline(), TOO_MANY, "what one too many is told")
+            return idle
+        except TimeoutError:
+            idle.append(client)
+    raise Failed(f"{FILES} clients are connected to a server that may open {FILES} files")
 
 
 def refused_creations_use_up_no_file():
@@ -129,13 +170,14 @@ def the_server_ends_while_clients_wait_for_changes():
 
 def the_server_ends_without_open_files():
     """The same where no more files can be opened, and the accept waits."""
-    server = Server(f"{STORE} --workers 2", preexec_fn=limited(FILES))
+    server = Server(f"{STORE} --workers 2")
     ann = server.author("ann")
     ann.does(do="create", pad="p")
     ann.wants({"do": "create", "pad": "p"}, {"code": 301, "error": "PadExists", "ok": False})
-    idle = use_up(server)
+    Shortage(server)
+    waiting = [socket.create_connection(("127.0.0.1", server.port), timeout=5) for _ in range(4)]
     fails_in_time(server, ann)
-    for client in idle:
+    for client in waiting:
         client.close()
 
 
@@ -170,6 +212,7 @@ def the_server_ends_while_it_connects():
 
 TESTS = [
     Test("open files: a creation without one is refused", a_creation_without_a_file_is_refused, 60),
+    Test("open files: more pads than files", more_pads_than_files, 60),
     Test("open files: refused creations use up none", refused_creations_use_up_no_file),
     Test("open files: a failed store ends the server whatever waits", the_server_ends_whatever_waits, 90, alone=True),
     Test("open files: a failed store ends a server whose clients wait for changes", the_server_ends_while_clients_wait_for_changes, 90, alone=True),

@@ -13,6 +13,7 @@ from harness import Case, Failed, Has, Test, put_files, start, want
 LISTEN = "--listen 127.0.0.1:0 --replica 1 --accounts accounts"
 NAMES = ["ann", "bob", "cid", "dan", "eve", "fay", "gus", "hal"]
 ACCOUNTS = (("accounts", "".join(f"author {name} t{name}\n" for name in NAMES)),)
+FULL = b'{"code":902,"error":"Full","ok":false}\n'
 TOO_LONG = '{"code":100,"error":"TooLong","ok":false}\n'
 WAIT = 15  # seconds, for an answer
 
@@ -226,21 +227,31 @@ def a_line_that_is_too_long_ends_its_connection():
     server.ends()
 
 
-def too_many_files():
-    """The system lets the server open so few files that it can't accept each connection."""
+def fewer_clients_where_files_are_short():
+    """The system lets the server open so few files that it serves one client, and tells the next one so."""
     limit = lambda: resource.setrlimit(resource.RLIMIT_NOFILE, (16, 16))
     server = Server("--workers 1 --clients 4", stderr=subprocess.PIPE, preexec_fn=limit)
     said = server.says()
-    want("the open-file limit (16) allows 0 clients" in said, True, f"what {said!r} says")
-    server = Server("--workers 1", stderr=subprocess.PIPE, preexec_fn=limit)
-    clients = [server.connect() for _ in range(12)]
-    server.says()
-    said = server.says()
-    want("cannot accept connections" in said, True, f"what {said!r} says")
-    for client in clients:
+    want("the open-file limit (16) has room for 1 of 4 clients" in said, True, f"what {said!r} says")
+    ann = server.author("ann")
+    want(server.connect().replies.readline(), FULL, "what a second client is told")
+    want(ann.does(do="create", pad="p")["visit"], 1, "the visit")
+
+
+def too_many_files():
+    """The system lets the server open no more: it accepts nobody, says so, and goes on once it may."""
+    server = Server("--workers 1", stderr=subprocess.PIPE)
+    most = resource.prlimit(server.process.pid, resource.RLIMIT_NOFILE)
+    ann = server.author("ann")
+    resource.prlimit(server.process.pid, resource.RLIMIT_NOFILE, (3, most[1]))
+    waiting = [server.connect() for _ in range(3)]
+    while "cannot accept connections" not in server.says():
+        pass
+    want(ann.does(do="create", pad="p")["visit"], 1, "the visit of one who is connected")
+    resource.prlimit(server.process.pid, resource.RLIMIT_NOFILE, most)
+    for client in waiting:
         client.close()
-    server.process.stderr.close()
-    want(server.author("ann").does(do="create", pad="p")["visit"], 1, "the visit")
+    want(server.author("bob").does(do="create", pad="q")["visit"], 1, "the visit of one who comes then")
 
 
 def an_address_in_use():
@@ -279,6 +290,7 @@ FUNCTIONS = [
     what_is_reported_once_is_read,
     a_silent_connection_ends_where_the_server_says_so,
     a_line_that_is_too_long_ends_its_connection,
+    fewer_clients_where_files_are_short,
     too_many_files,
     an_address_in_use,
 ]

@@ -2,7 +2,7 @@
 use crate::arrivals::{Arrival, ClientAddress, Entrance};
 use crate::clients::WAKING;
 use crate::hub::Hub;
-use crate::limits::{Limits, PAGE_REQUESTS};
+use crate::limits::Limits;
 use crate::rarely::Rarely;
 use crate::ticker::Ticker;
 use log::warn;
@@ -268,7 +268,10 @@ fn what_is_full<R: Wait>(
 ) -> Result<Option<Full>, AllocError> {
     let (has_room, most) = match entrance {
         Entrance::Lines => (hub.has_room(limits.clients), limits.clients),
-        Entrance::Web => (hub.has_room_for_page_request(), PAGE_REQUESTS),
+        Entrance::Web => {
+            let most = limits.page_requests;
+            (hub.has_room_for_page_request(most), most)
+        }
     };
     if !has_room {
         let of = "clients are connected";

@@ -2,7 +2,6 @@
 //! server is ending.
 use crate::arrivals::Arrival;
 use crate::delay::{Delay, Wanted};
-use crate::limits::PAGE_REQUESTS;
 use crate::lobby::Lobby;
 use cell_set::CellSet;
 use crossbeam_channel::Sender;
@@ -144,9 +143,9 @@ impl Hub {
         self.clients.load(Ordering::SeqCst) < u64::from(most)
     }
 
-    /// Returns true if there is room for one more request over HTTP.
-    pub fn has_room_for_page_request(&self) -> bool {
-        self.page_requests.load(Ordering::SeqCst) < u64::from(PAGE_REQUESTS)
+    /// Returns true if there is room for one more request over HTTP, with at most `most` in all.
+    pub fn has_room_for_page_request(&self, most: u32) -> bool {
+        self.page_requests.load(Ordering::SeqCst) < u64::from(most)
     }
 
     /// Notes that a worker is running.

@@ -7,6 +7,8 @@ pub struct Limits {
     pub connections: Option<u32>,
     /// The most clients that may be connected at once.
     pub clients: u32,
+    /// The most HTTP requests that are read or answered at once. They do not count as clients.
+    pub page_requests: u32,
     /// The most connections that one address may have at once. None: no limit.
     pub per_address: Option<u32>,
     /// The most seconds from one line of a client to the next. None: no limit.
@@ -51,9 +53,6 @@ pub const LOG_IN: u64 = 60_000;
 
 /// The time that a browser has to send its request, in milliseconds.
 pub const REQUEST: u64 = 10_000;
-
-/// The most HTTP requests that are read or answered at once. They do not count as clients.
-pub const PAGE_REQUESTS: u32 = 512;
 
 /// The time between two checks of the clients' time limits, in milliseconds.
 pub const CHECK: u64 = 1_000;

@@ -1,4 +1,5 @@
 -- The definitions that the contracts cite, by topic.
 pub mod Ownership
 pub mod Noting
+pub mod OpenFiles
 pub mod Settling

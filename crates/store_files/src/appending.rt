@@ -1,11 +1,11 @@
 //! Appends the notes of a pad to its file.
 ghost use Rattle.std.specs.Prelude.{◌≡◌, IfOk};
 
-use crate::keeper::{Keeper, OpenPadFile};
+use crate::keeper::Keeper;
 use crate::pad_device::PadDevice;
+use crate::pad_end::{PadEnd, open_end};
 use group_commit::{Commit, Committed, Notes, Uncommitted, append};
 use log::error;
-use pad_model::Name;
 use server_log::ServerLog;
 use std::alloc::Global;
 use std::fs::File;
@@ -27,7 +27,7 @@ impl<'r, 'k, R: Wait> Files<'r, 'k, R> {
         Files { rt, keeper }
     }
 
-    // Appends the notes of a pad to its file. The first note of a new pad makes the file.
+    // Appends the notes of a pad to its file.
     fn put(&self, notes: Notes) -> Result<Committed, Uncommitted>
         ensures { IfOk result (λ done. done.cell ≡ notes.cell) }
     {
@@ -35,20 +35,15 @@ impl<'r, 'k, R: Wait> Files<'r, 'k, R> {
         let Some(pad) = self.keeper.pads.get(notes.cell() as usize) else {
             return Err(Uncommitted::Unwritten(io::Error::from(ErrorKind::NotFound)));
         };
-        let mut open = pad.lock(self.rt);
-        let begins = open.file.is_none();
-        if begins {
-            let Some(Record::Named { name, .. }) = notes.first() else {
-                return Err(Uncommitted::Unwritten(io::Error::from(ErrorKind::InvalidData)));
-            };
-            self.begin(alloc, &mut open, name)?;
-        }
-        let OpenPadFile {
+        let mut end = pad.lock(self.rt);
+        let begins = end.name.is_none();
+        self.open(alloc, &mut end, &notes)?;
+        let PadEnd {
             file,
             writer,
             synced,
             ..
-        } = &mut *open;
+        } = &mut *end;
         let Some(file) = file else {
             return Err(Uncommitted::Unwritten(io::Error::from(ErrorKind::NotFound)));
         };
@@ -62,10 +57,25 @@ impl<'r, 'k, R: Wait> Files<'r, 'k, R> {
         Ok(done)
     }
 
-    // Makes the file of a pad that was just named.
-    fn begin(&self, alloc: Global, open: &mut OpenPadFile, name: &Name) -> io::Result<()> {
-        open.name = Some(String::from_str(alloc, name.as_str())?);
-        open.file = Some(self.keeper.begin(self.rt, alloc, name, &mut open.writer)?);
+    // Opens the file of a pad if it is closed. The first note of a new pad makes it.
+    fn open(&self, alloc: Global, end: &mut PadEnd, notes: &Notes) -> io::Result<()> {
+        let file = match (&end.file, &end.name) {
+            (Some(_), _) => return Ok(()),
+            (None, Some(name)) => {
+                let (files, folder) = (&self.keeper.files, self.keeper.folder.as_str());
+                open_end(alloc, files, folder, name.as_str())?
+            }
+            (None, None) => {
+                let Some(Record::Named { name, .. }) = notes.first() else {
+                    return Err(io::Error::from(ErrorKind::InvalidData));
+                };
+                let named = String::from_str(alloc, name.as_str())?;
+                let file = self.keeper.begin(self.rt, alloc, name, &mut end.writer)?;
+                end.name = Some(named);
+                file
+            }
+        };
+        end.file = Some(file);
         Ok(())
     }
 
@@ -95,6 +105,7 @@ impl<R: Wait> Commit for Files<'_, '_, R> {
         let cell = notes.cell();
         match self.put(notes) {
             Ok(done) => {
+                self.keeper.note_open(self.rt, cell);
                 self.keeper.copying.note(cell);
                 Ok(done)
             }

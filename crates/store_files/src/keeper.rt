@@ -7,7 +7,9 @@ ghost use Rattle.store_files.specs.Noting.{IsKept};
 
 use crate::appending::Files;
 use crate::copying::{Copying, Followed, Waited};
+use crate::open_files::OpenFiles;
 use crate::pad_device::make_room;
+use crate::pad_end::{PadEnd, path_of};
 use crate::promised::Promised;
 use crate::reserve::{Reserve, is_full};
 use crate::spares::{Spare, Spares};
@@ -31,17 +33,6 @@ use store_records::records_of;
 /// The seconds between checks for a failed store while a server waits for the standby at its start.
 const A_WHILE: u64 = 1;
 
-/// A pad's file, open for appending and reading, and its writer. None: the file is still to be made.
-#[derive(Drop)]
-pub struct OpenPadFile {
-    pub file: Option<File>,
-    pub writer: PadWriter,
-    /// The name of the pad.
-    pub name: Option<String>,
-    /// The number of bytes of the file that are synced, if a standby has a copy.
-    pub synced: u64,
-}
-
 /// Keeps the pads of a server in files, one for each pad that has a name. `restore` makes it, and all threads share it.
 #[derive(Drop)]
 pub struct Keeper {
@@ -49,7 +40,9 @@ pub struct Keeper {
     pub(crate) files: HostRuntime,
     pub(crate) folder: String,
     replica: u16,
-    pub(crate) pads: Vec<Mutex<OpenPadFile>>,
+    pub(crate) pads: Vec<Mutex<PadEnd>>,
+    // Which of their files are open.
+    open: Mutex<OpenFiles>,
     pub(crate) commits: Commits,
     pub(crate) copying: Copying,
     pub(crate) reserve: Reserve,
@@ -64,6 +57,7 @@ pub struct Keeper {
 /// handed over.
 #[derive(Drop)]
 pub(crate) struct KeeperParts {
+    pub open: OpenFiles,
     pub commits: Commits,
     pub copying: Copying,
     pub reserve: Reserve,
@@ -85,7 +79,7 @@ impl Keeper {
         files: HostRuntime,
         folder: String,
         replica: u16,
-        pads: Vec<Mutex<OpenPadFile>>,
+        pads: Vec<Mutex<PadEnd>>,
         parts: KeeperParts,
         held: OpenFolder,
     ) -> Keeper {
@@ -95,6 +89,7 @@ impl Keeper {
             folder,
             replica,
             pads,
+            open: Mutex::new(parts.open),
             commits: parts.commits,
             copying: parts.copying,
             reserve: parts.reserve,
@@ -228,8 +223,7 @@ impl Keeper {
             return Err(io::Error::from(ErrorKind::NotFound));
         };
         let folder = self.folder.as_str();
-        let pad = name.as_str();
-        let path = format!(in alloc; "{folder}/{pad}.pad")?;
+        let path = path_of(alloc, folder, name.as_str())?;
         match spare.rename(&self.files, path.as_str()) {
             Err(cause) if is_full(&cause) => {
                 make_room(rt, &self.files, folder, &self.reserve)?;
@@ -241,6 +235,17 @@ impl Keeper {
         let Spare { file, .. } = spare;
         writer.begin(alloc, name, self.replica)?;
         Ok(file)
+    }
+
+    // Notes that the file of a cell was appended to, and closes another one if more are open than may be. It is called under no lock
+    // of a pad. All that was appended is synced, so that closing loses nothing.
+    pub(crate) fn note_open<R: Wait>(&self, rt: &R, cell: u32) {
+        let closed = self.open.lock(rt).note(cell);
+        if let Some(other) = closed {
+            if let Some(end) = self.pads.get(other as usize) {
+                end.lock(rt).file = None;
+            }
+        }
     }
 
     // The time of day in seconds since 1970, or 0 if the clock fails.

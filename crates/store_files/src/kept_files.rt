@@ -1,11 +1,13 @@
 //! The files of a store as whoever copies them sees them: as far as they are synced.
 use crate::keeper::Keeper;
+use crate::pad_end::PadEnd;
 use crate::sums::sum_before;
 use crate::synced_files::{SyncedFile, SyncedFiles};
 use cell_set::CellSet;
 use file_copies::HeardMark;
 use pad_model::Name;
 use std::alloc::{AllocError, Global};
+use std::fs::File;
 use std::io;
 use std::io::ErrorKind;
 use std::os::unix::fs::FileExt;
@@ -34,6 +36,11 @@ impl<'k> KeptFiles<'k> {
         self.keeper.has_failed()
     }
 
+    // Opens the file of a pad to read it, if it is closed.
+    fn open_closed(&self, alloc: Global, end: &PadEnd) -> io::Result<Option<File>> {
+        end.open_closed(alloc, &self.keeper.files, self.keeper.folder.as_str())
+    }
+
     // Reads at most `most` synced bytes of a file, from this place on.
     fn bytes_from<R: Wait>(
         &self,
@@ -47,9 +54,10 @@ impl<'k> KeptFiles<'k> {
         let Some(pad) = self.keeper.pads.get(cell as usize) else {
             return Ok(bytes);
         };
-        let open = pad.lock(rt);
-        let left = open.synced.saturating_sub(from).min(most);
-        let Some(file) = &open.file else {
+        let end = pad.lock(rt);
+        let left = end.synced.saturating_sub(from).min(most);
+        let opened = self.open_closed(alloc, &end)?;
+        let Some(file) = opened.as_ref().or(end.file.as_ref()) else {
             return Ok(bytes);
         };
         bytes.resize(usize::try_from(left).unwrap_or(0), 0)?;
@@ -77,11 +85,11 @@ impl SyncedFiles for KeptFiles<'_> {
         let Some(pad) = self.keeper.pads.get(cell as usize) else {
             return Ok(None);
         };
-        let open = pad.lock(rt);
-        match &open.name {
+        let end = pad.lock(rt);
+        match &end.name {
             Some(name) => Ok(Some(SyncedFile {
                 pad: Name::from_str(alloc, name.as_str())?,
-                length: open.synced,
+                length: end.synced,
             })),
             None => Ok(None),
         }
@@ -117,14 +125,15 @@ impl SyncedFiles for KeptFiles<'_> {
         rt: &R,
         alloc: Global,
         cell: u32,
-        end: u64,
+        place: u64,
     ) -> io::Result<Option<String>> {
         let Some(pad) = self.keeper.pads.get(cell as usize) else {
             return Ok(None);
         };
-        let open = pad.lock(rt);
-        match &open.file {
-            Some(file) if end <= open.synced => sum_before(alloc, file, end),
+        let end = pad.lock(rt);
+        let opened = self.open_closed(alloc, &end)?;
+        match opened.as_ref().or(end.file.as_ref()) {
+            Some(file) if place <= end.synced => sum_before(alloc, file, place),
             _ => Ok(None),
         }
     }

@@ -15,12 +15,11 @@ use store_format::{Damage, Loaded, PadWriter};
 /// The number of files of one pad's name that may be moved aside.
 const MOST_ASIDE: u32 = 1_000;
 
-/// A pad that was loaded, with its file open for appending.
+/// A pad that was loaded, with the writer of its file, which is closed.
 #[derive(Drop)]
 pub struct PadFile<S: Sequence> {
     pub pad: Pad<S>,
     pub writer: PadWriter,
-    pub file: File,
     /// The number of bytes of the file, all of which are synced.
     pub length: u64,
 }
@@ -130,7 +129,7 @@ fn move_aside(files: &HostRuntime, path: &str) -> io::Result<()> {
     Err(io::Error::from(ErrorKind::AlreadyExists))
 }
 
-// A pad with its file, which is cut after the last line that was read. A server with a new number begins with a header.
+// A pad with the end of its file, which is cut after the last line that was read.
 fn open_loaded<S: Sequence>(
     files: &HostRuntime,
     path: &str,
@@ -141,34 +140,28 @@ fn open_loaded<S: Sequence>(
     if cut > 0 {
         warn!(ServerLog(files); "{path}: dropped the last {cut} bytes, which an interrupted write left; nothing that was synced is lost");
     }
-    let OpenEnd {
-        file,
-        writer,
-        length,
-    } = open_end(files, path, replica, &loaded)?;
+    let FileEnd { writer, length } = end_of(files, path, replica, &loaded)?;
     Ok(PadFile {
         pad: loaded.pad,
         writer,
-        file,
         length,
     })
 }
 
 // The end of a pad's file, where lines are appended.
 #[derive(Drop)]
-struct OpenEnd {
-    file: File,
+struct FileEnd {
     writer: PadWriter,
     length: u64,
 }
 
-// Opens the end of the file from which a pad was loaded. A server with a new number begins with a header.
-fn open_end<S: Sequence>(
+// Cuts the file from which a pad was loaded. A server with a new number begins with a header.
+fn end_of<S: Sequence>(
     files: &HostRuntime,
     path: &str,
     replica: u16,
     loaded: &Loaded<S>,
-) -> io::Result<OpenEnd> {
+) -> io::Result<FileEnd> {
     let alloc = files.alloc();
     let mut file = open_file(files, path, loaded.whole)?;
     let mut writer = PadWriter::new(alloc, loaded.sum.to_string(alloc)?);
@@ -178,11 +171,7 @@ fn open_end<S: Sequence>(
         file.sync_all()?;
     }
     let length = file.metadata()?.len();
-    Ok(OpenEnd {
-        file,
-        writer,
-        length,
-    })
+    Ok(FileEnd { writer, length })
 }
 
 // Opens a file for appending after its whole lines.

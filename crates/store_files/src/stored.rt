@@ -1,7 +1,9 @@
 //! The pads of a store at the start of the server.
 use crate::copying::Copying;
-use crate::keeper::{Keeper, KeeperParts, OpenFolder, OpenPadFile};
+use crate::keeper::{Keeper, KeeperParts, OpenFolder};
+use crate::open_files::OpenFiles;
 use crate::owner::Owner;
+use crate::pad_end::PadEnd;
 use crate::pad_file::PadFile;
 use crate::reading::{Read, earlier_numbers, read_all};
 use crate::reserve::Reserve;
@@ -17,6 +19,7 @@ use server_log::ServerLog;
 use shared_pads::{LockedPad, SharedPad};
 use std::alloc::{AllocError, Global};
 use std::fs::{DirBuilder, File, OpenOptions};
+use std::num::NonZeroUsize;
 use std::os::unix::fs::{DirBuilderExt, OpenOptionsExt};
 use std::rt::Runtime;
 use std::sync::{Mutex, Wait};
@@ -47,6 +50,8 @@ pub struct Size {
     pub cells: u32,
     /// The number of threads that have a seat at each pad.
     pub seats: u32,
+    /// The number of pads whose files may be open at once.
+    pub files: NonZeroUsize,
 }
 
 /// Loads the pads of a folder, each from its file, in the order of the files' names. The other cells are free. A server
@@ -67,7 +72,8 @@ where
     let kept_in = String::from_str(rt.alloc(), folder)?;
     let (held, names) = open_folder(rt, &files, folder)?;
     let row = load_row(rt, &files, folder, names, owner, size)?;
-    let parts = keeper_parts(rt, &files, folder, row.files.as_slice(), confirm)?;
+    let ends = row.files.as_slice();
+    let parts = keeper_parts(rt, &files, folder, ends, size.files, confirm)?;
     Ok(Stored {
         cells: row.cells,
         revisions: row.revisions,
@@ -81,18 +87,20 @@ fn keeper_parts<'f, R>(
     rt: &R,
     files: &HostRuntime,
     folder: &'f str,
-    opened: &[Mutex<OpenPadFile>],
+    ends: &[Mutex<PadEnd>],
+    most_open: NonZeroUsize,
     confirm: Option<Confirm>,
 ) -> Result<KeeperParts, StoreError<'f>>
 where
     R: Runtime<A = Global, File = File> + Wait,
 {
-    let cells = u32::try_from(opened.len()).unwrap_or(u32::MAX);
-    let copying = Copying::new(rt.alloc(), opened.len(), confirm)?;
-    for file in opened {
-        copying.progress.synced_bytes.add(file.lock(rt).synced);
+    let cells = u32::try_from(ends.len()).unwrap_or(u32::MAX);
+    let copying = Copying::new(rt.alloc(), ends.len(), confirm)?;
+    for end in ends {
+        copying.progress.synced_bytes.add(end.lock(rt).synced);
     }
     Ok(KeeperParts {
+        open: OpenFiles::new(rt.alloc(), most_open)?,
         commits: Commits::new(rt.alloc(), cells)?,
         copying,
         reserve: open_reserve(rt, files, folder)?,
@@ -182,7 +190,7 @@ struct LoadingPads {
     seats: u32,
     cells: Vec<SharedPad<BlockSeq>>,
     revisions: Vec<u64>,
-    files: Vec<Mutex<OpenPadFile>>,
+    files: Vec<Mutex<PadEnd>>,
     /// The numbers of the servers that wrote the files, but for this one.
     numbers: Vec<u16>,
 }
@@ -211,16 +219,15 @@ impl LoadingPads {
     }
 
     // Adds a pad.
-    fn add(&mut self, alloc: Global, opened: PadFile<BlockSeq>) -> Result<(), AllocError> {
-        let name = name_of(alloc, &opened.pad)?;
+    fn add(&mut self, alloc: Global, loaded: PadFile<BlockSeq>) -> Result<(), AllocError> {
+        let name = name_of(alloc, &loaded.pad)?;
         let PadFile {
             pad,
             writer,
-            file,
             length,
-        } = opened;
-        let has_file = self.add_file(OpenPadFile {
-            file: Some(file),
+        } = loaded;
+        let has_file = self.add_file(PadEnd {
+            file: None,
             writer,
             name,
             synced: length,
@@ -232,7 +239,7 @@ impl LoadingPads {
     // Adds a cell without a pad.
     fn add_free(&mut self, alloc: Global, owner: &Owner, cell: u32) -> Result<(), AllocError> {
         let writer = PadWriter::new(alloc, String::new(alloc));
-        self.add_file(OpenPadFile {
+        self.add_file(PadEnd {
             file: None,
             writer,
             name: None,
@@ -245,8 +252,8 @@ impl LoadingPads {
     }
 
     // Adds the file of the next cell. Where memory runs out, the start fails.
-    fn add_file(&mut self, open: OpenPadFile) -> Result<(), AllocError> {
-        self.files.push(Mutex::new(open))?;
+    fn add_file(&mut self, end: PadEnd) -> Result<(), AllocError> {
+        self.files.push(Mutex::new(end))?;
         Ok(())
     }
 

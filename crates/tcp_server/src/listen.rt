@@ -7,6 +7,7 @@ use crate::numbers_page::with_numbers;
 use crate::opened::{Opened, open_pads};
 use crate::other_threads::{Ends, start_exchange, start_help, start_sending, start_status};
 use crate::pad_gate::PadGate;
+use crate::room::Room;
 use crate::sender::sender_of;
 use crate::serving_error::ServingError;
 use crate::settings::{Settings, StandbyPeer};
@@ -245,7 +246,7 @@ where
     let service = Service {
         row: &row,
         hub,
-        limits: limits_of(asked),
+        limits: limits_of(asked, opened.room),
         settle: &settle,
         site,
     };
@@ -266,11 +267,12 @@ where
     serve(&service, acceptor, workers, others)
 }
 
-/// The limits of the settings.
-fn limits_of(asked: Settings<'_>) -> Limits {
+/// The limits of the settings, as far as there is room for them.
+fn limits_of(asked: Settings<'_>, room: Room) -> Limits {
     Limits {
         connections: asked.connections,
-        clients: asked.clients,
+        clients: room.clients,
+        page_requests: room.page_requests,
         per_address: asked.clients_per_address,
         idle: asked.idle,
         logs_access: asked.logs_access,

@@ -2,6 +2,7 @@
 ghost use Rattle.std.specs.Prelude.{◌≤◌};
 ghost use Rattle.server_core.specs.declared.limits.TheConstants.{MAX_CELLS};
 
+use crate::room::{Room, room_of};
 use crate::serving_error::ServingError;
 use crate::settings::{Settings, StandbyPeer};
 use crate::threads::seats_for;
@@ -14,6 +15,7 @@ use sessions::{Accounts, Peer};
 use shared_pads::SharedPad;
 use std::alloc::Global;
 use std::fs::File;
+use std::num::NonZeroUsize;
 use std::rt::Runtime;
 use std::sync::Wait;
 use std::thread::Threads;
@@ -29,6 +31,8 @@ pub struct Opened {
     pub numbers: Vec<u16>,
     pub keeper: Option<Keeper>,
     pub accounts: Accounts,
+    /// How many files may be open, of which kinds.
+    pub room: Room,
     /// The state that the threads that exchange with peers share, and the means to stop them.
     pub exchange: Exchange,
     pub stop: Stop,
@@ -132,13 +136,14 @@ where
     R: Runtime<A = Global, File = File> + Threads + Wait + Eprint + Sync,
     requires { (1 ≤ asked.replica) × (asked.cells ≤ MAX_CELLS) }
 {
-    let seats = seats_for(rt, asked, accounts.peers().len());
+    let peers = accounts.peers().len();
+    let (seats, room) = (seats_for(rt, asked, peers), room_of(rt, asked, peers));
     let row = match asked.store {
-        Some(folder) => stored_row(rt, files, asked, folder, seats),
+        Some(folder) => stored_row(rt, files, asked, folder, seats, room),
         None => free_row(rt.alloc(), asked, seats),
     };
     match row {
-        Ok(row) => Ok(open_row_of(rt, row, accounts)?),
+        Ok(row) => Ok(open_row_of(rt, row, accounts, room)?),
         Err(error) => Err(error),
     }
 }
@@ -152,13 +157,14 @@ struct OpenedRow {
     keeper: Option<Keeper>,
 }
 
-// The pads of a store, with this number of seats at each.
+// The pads of a store, with this number of seats at each, and room for so many open files.
 fn stored_row<'a, R>(
     rt: &R,
     files: HostRuntime,
     asked: Settings<'a>,
     folder: &'a str,
     seats: u32,
+    room: Room,
 ) -> Result<OpenedRow, ServingError<'a>>
 where
     R: Runtime<A = Global, File = File> + Threads + Wait + Eprint + Sync,
@@ -169,6 +175,7 @@ where
     let size = Size {
         cells: asked.cells,
         seats,
+        files: NonZeroUsize::new(room.pads as usize).unwrap_or(NonZeroUsize::MIN),
     };
     let Stored {
         cells,
@@ -208,6 +215,7 @@ fn open_row_of<R: AllocGlobal + Wait>(
     rt: &R,
     row: OpenedRow,
     accounts: Accounts,
+    room: Room,
 ) -> Result<Opened, Refusal> {
     match shared_parts(rt, row.cells.as_slice(), accounts.peers().len()) {
         Ok(shared) => Ok(Opened {
@@ -217,6 +225,7 @@ fn open_row_of<R: AllocGlobal + Wait>(
             numbers: row.numbers,
             keeper: row.keeper,
             accounts,
+            room,
             exchange: shared.exchange,
             stop: shared.stop,
             end: shared.end,

@@ -15,7 +15,7 @@ use std::thread::{Scope, Threads};
 use std::time::Clock;
 
 /// Threads that sync files while the workers serve. They wait for the disk, so there are more of them than processors.
-const SYNCERS: u32 = 12;
+pub const SYNCERS: u32 = 12;
 
 /// Starts the threads that sync files, if there is a store. Returns true if at least one runs then: with fewer, syncs of
 /// many files take longer, and without one no worker would hear of the end of a sync.

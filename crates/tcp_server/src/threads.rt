@@ -42,7 +42,7 @@ where
     let mut crew = Vec::new(rt.alloc());
     let threads = threads_for(rt, asked);
     take_all_seats(rt, rt.alloc(), opened.cells.as_slice(), threads, &mut crew)?;
-    warn_of_room(rt, asked, crew.len(), opened.accounts.peers().len());
+    warn_of_room(rt, asked, opened.room);
     let Listeners { lines, web, .. } = listeners;
     match set_up(rt, lines, web, crew, opened.revisions.as_slice()) {
         Ok(made) => Ok(made),

@@ -1,0 +1,2 @@
+-- The definitions that the contracts cite, by topic.
+pub mod Room

@@ -90,6 +90,31 @@ def more_pads_than_files():
     kill(server)
 
 
+def a_file_is_closed_for_another():
+    """Where a server can open no more files, it writes to a pad whose file is closed, and closes that of another pad for it."""
+    server = Server(f"{STORE} --workers 2", preexec_fn=limited(FILES))
+    ann = server.author("ann")
+    for number in range(PADS):
+        ann.does(do="create", pad=f"p{number}")
+    folder = f"/proc/{server.process.pid}/fd"
+    highest = lambda: max(int(name) for name in os.listdir(folder))
+    before, clients = highest(), []
+    while highest() == before:
+        clients.append(server.author("bob"))
+    resource.prlimit(server.process.pid, resource.RLIMIT_NOFILE, (highest() + 1, FILES))
+    for rev in range(2):
+        for number in range(PADS):
+            ann.does(do="insert", pad=f"p{number}", rev=rev, at=rev, text="ab"[rev])
+    ann.wants({"do": "create", "pad": "q"}, FULL)
+    kill(server)
+    server = restarted()
+    ann = server.author("ann")
+    for number in range(PADS):
+        ann.join(f"p{number}")
+        want(ann.does(do="text", pad=f"p{number}")["text"], "ab", f"the text of pad {number}")
+    kill(server)
+
+
 def fill(server):
     """Connects until one more is told that there is no room."""
     idle = []
@@ -213,6 +238,7 @@ def the_server_ends_while_it_connects():
 TESTS = [
     Test("open files: a creation without one is refused", a_creation_without_a_file_is_refused, 60),
     Test("open files: more pads than files", more_pads_than_files, 60),
+    Test("open files: a file is closed for another", a_file_is_closed_for_another, 60),
     Test("open files: refused creations use up none", refused_creations_use_up_no_file),
     Test("open files: a failed store ends the server whatever waits", the_server_ends_whatever_waits, 90, alone=True),
     Test("open files: a failed store ends a server whose clients wait for changes", the_server_ends_while_clients_wait_for_changes, 90, alone=True),

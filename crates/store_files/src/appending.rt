@@ -61,10 +61,7 @@ impl<'r, 'k, R: Wait> Files<'r, 'k, R> {
     fn open(&self, alloc: Global, end: &mut PadEnd, notes: &Notes) -> io::Result<()> {
         let file = match (&end.file, &end.name) {
             (Some(_), _) => return Ok(()),
-            (None, Some(name)) => {
-                let (files, folder) = (&self.keeper.files, self.keeper.folder.as_str());
-                open_end(alloc, files, folder, name.as_str())?
-            }
+            (None, Some(name)) => self.open_again(alloc, name.as_str())?,
             (None, None) => {
                 let Some(Record::Named { name, .. }) = notes.first() else {
                     return Err(io::Error::from(ErrorKind::InvalidData));
@@ -77,6 +74,48 @@ impl<'r, 'k, R: Wait> Files<'r, 'k, R> {
         };
         end.file = Some(file);
         Ok(())
+    }
+
+    // Opens the file of a pad. Where that fails, the files of others are closed for it, one after the other: the system may
+    // have no more.
+    fn open_again(&self, alloc: Global, pad: &str) -> io::Result<File> {
+        let (files, folder) = (&self.keeper.files, self.keeper.folder.as_str());
+        for _ in &self.keeper.pads {
+            match open_end(alloc, files, folder, pad) {
+                Err(_) if self.close_oldest() => {}
+                done => return done,
+            }
+        }
+        open_end(alloc, files, folder, pad)
+    }
+
+    // Notes that the file of a cell was appended to, and closes another one if more are open than may be. It is called under no lock
+    // of a pad. All that was appended is synced, so that closing loses nothing.
+    fn note_open(&self, cell: u32) {
+        let closed = self.keeper.open.lock(self.rt).note(cell);
+        if let Some(other) = closed {
+            if let Some(end) = self.keeper.pads.get(other as usize) {
+                end.lock(self.rt).file = None;
+            }
+        }
+    }
+
+    // Closes the file that was written longest ago, and returns true if there was one. It is called under the lock of another pad:
+    // a file that is used just now stays open.
+    fn close_oldest(&self) -> bool {
+        let Some(oldest) = self.keeper.open.lock(self.rt).take_oldest() else {
+            return false;
+        };
+        let Some(end) = self.keeper.pads.get(oldest as usize) else {
+            return true;
+        };
+        match end.try_lock() {
+            Some(mut end) => end.file = None,
+            None => {
+                let _closed = self.keeper.open.lock(self.rt).note(oldest);
+            }
+        }
+        true
     }
 
     // The number of bytes of a file.
@@ -105,7 +144,7 @@ impl<R: Wait> Commit for Files<'_, '_, R> {
         let cell = notes.cell();
         match self.put(notes) {
             Ok(done) => {
-                self.keeper.note_open(self.rt, cell);
+                self.note_open(cell);
                 self.keeper.copying.note(cell);
                 Ok(done)
             }

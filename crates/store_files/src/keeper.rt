@@ -42,7 +42,7 @@ pub struct Keeper {
     replica: u16,
     pub(crate) pads: Vec<Mutex<PadEnd>>,
     // Which of their files are open.
-    open: Mutex<OpenFiles>,
+    pub(crate) open: Mutex<OpenFiles>,
     pub(crate) commits: Commits,
     pub(crate) copying: Copying,
     pub(crate) reserve: Reserve,
@@ -235,17 +235,6 @@ impl Keeper {
         let Spare { file, .. } = spare;
         writer.begin(alloc, name, self.replica)?;
         Ok(file)
-    }
-
-    // Notes that the file of a cell was appended to, and closes another one if more are open than may be. It is called under no lock
-    // of a pad. All that was appended is synced, so that closing loses nothing.
-    pub(crate) fn note_open<R: Wait>(&self, rt: &R, cell: u32) {
-        let closed = self.open.lock(rt).note(cell);
-        if let Some(other) = closed {
-            if let Some(end) = self.pads.get(other as usize) {
-                end.lock(rt).file = None;
-            }
-        }
     }
 
     // The time of day in seconds since 1970, or 0 if the clock fails.

@@ -2,7 +2,7 @@
 ghost use Rattle.std.specs.Prelude.{◌≡◌, [], IfOk};
 ghost use Rattle.std.specs.NonZero.{non_zero_usize_get};
 ghost use Rattle.lru.specs.LruCache.{lru_cache};
-ghost use Rattle.store_files.specs.OpenFiles.{IsNoted};
+ghost use Rattle.store_files.specs.OpenFiles.{IsNoted, IsTaken};
 
 use lru::LruCache;
 use std::alloc::{AllocError, Global};
@@ -43,6 +43,16 @@ impl OpenFiles {
             Ok(Some((other, _))) if other != cell => Some(other),
             Ok(_) => None,
             Err(_) => Some(cell),
+        }
+    }
+
+    /// Takes out the cell whose file was written longest ago, which is to be closed. None: no file is open.
+    pub fn take_oldest(&mut self) -> Option<u32>
+        ensures { IsTaken self.old result self.new }
+    {
+        match self.cells.pop_lru() {
+            Some((cell, _)) => Some(cell),
+            None => None,
         }
     }
 }

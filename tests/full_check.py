@@ -1,18 +1,23 @@
 """The scripts of .ci/, on a small repository with a toolchain of a few lines: what the full check proves, plays and counts,
 and which must-fail edits it leaves out."""
 import os
+import re
 import subprocess
 
 from harness import ROOT, Test, put_files, want
 
-SCRIPTS = [".ci/run", ".ci/long", ".ci/edits", ".ci/lanes"]
+SCRIPTS = [".ci/run", ".ci/long", ".ci/edits", ".ci/lanes", ".ci/keep-only"]
 UNPROVED = ["pad_part_tests", "sequence_tests", "server_tests", "relay_tests", "thread_tests", "client_tests", "standby_tests"]
 
-# In place of the toolchain: notes which crates and edits it finds, leaves a program, and says what the file SAYS holds.
+# In place of the toolchain: notes which crates and edits it finds, leaves a program where there is one, and then says what the file
+# SAYS holds. Where there is a file KEEPS, it keeps what it has proved.
 RT = """#!/bin/bash
 case $1 in
 version) cat "$ROOM/kit" ;;
 ci)
+    echo "${RT_JOBS:-its own plan}:" $(ls crates) >>"$ROOM/ran"
+    [[ ! -f $ROOM/keeps ]] || mkdir -p "$ROOM/rattle-kept/proof-low-1"
+    [[ -d crates/pad_server ]] || { echo "1 passed, 0 failed" && exit 0; }
     ls crates >"$ROOM/crates"
     cp crates.txt "$ROOM/listed"
     echo "$RT_JOBS" >"$ROOM/lanes"
@@ -47,7 +52,7 @@ def write(path, text):
 
 
 def run(*words, folder="top"):
-    variables = {"PATH": f"{os.getcwd()}/bin:/usr/bin:/bin", "ROOM": os.getcwd(), "HOME": os.getcwd()}
+    variables = {"PATH": f"{os.getcwd()}/rattle/bin:{os.getcwd()}/bin:/usr/bin:/bin", "ROOM": os.getcwd(), "HOME": os.getcwd()}
     git = {f"GIT_{who}_{what}": "ann@localhost" for who in ["AUTHOR", "COMMITTER"] for what in ["NAME", "EMAIL"]}
     return subprocess.run(words, cwd=folder, env={**variables, **git}, stdin=subprocess.DEVNULL, capture_output=True, text=True)
 
@@ -61,7 +66,8 @@ def repository(quick="2 passed, 0 failed\n", played="10 passed, 0 failed\n", say
     """A repository in the folder top, whose state is committed, and a toolchain."""
     for name in SCRIPTS:
         with open(f"{ROOT}/{name}", encoding="utf-8") as file:
-            write(f"top/{name}", file.read())
+            text = re.sub("^FIRST=.*", "FIRST=(low) LAST=(pad_server)", file.read(), flags=re.MULTILINE)
+            write(f"top/{name}", text)
     scripts = [("quick", part(quick)), ("run", part(played)), ("pages", part("")), ("needs", part(""))]
     for name, text in scripts:
         write(f"top/tests/{name}", text)
@@ -72,9 +78,9 @@ def repository(quick="2 passed, 0 failed\n", played="10 passed, 0 failed\n", say
         write(f"top/crates/{name}/src/{'main' if name == 'pad_server' else 'lib'}.rt", f"fn {name}() {{}}\n")
     for path in EDITS:
         write(f"top/crates/{path}", f"file: src/lib.rt\nold: fn\nnew: fun of {path}\n")
-    for path, text in [("bin/rt", RT), ("kit", "kit 1\n"), ("says", says), ("status", f"{status}\n")]:
+    for path, text in [("rattle/bin/rt", RT), ("kit", "kit 1\n"), ("says", says), ("status", f"{status}\n")]:
         write(path, text)
-    for path in ["bin/rt", *(f"top/{name}" for name in SCRIPTS), *(f"top/tests/{name}" for name, _ in scripts)]:
+    for path in ["rattle/bin/rt", *(f"top/{name}" for name in SCRIPTS), *(f"top/tests/{name}" for name, _ in scripts)]:
         os.chmod(path, 0o755)
     run("git", "init", "-q")
     commit()
@@ -162,10 +168,25 @@ def as_many_crates_are_proved_at_a_time_as_fit():
         want(read("lanes"), f"{lanes}\n", f"how many crates are proved at a time with {kilobytes} kB")
 
 
+def the_first_and_the_last_crates_have_all_processors():
+    """Where rt keeps what it proves: it plans for these itself, and is told how many of the others to prove at a time."""
+    repository()
+    write("bin/awk", "#!/bin/bash\necho 1000000\n")
+    os.chmod("bin/awk", 0o755)
+    write("keeps", "")
+    run(".ci/run")
+    wanted = ["its own plan: low", "1: apart high low", "its own plan: apart high low pad_server"]
+    want(read("ran").splitlines(), wanted, "how which crates are proved")
+    os.remove("ran")
+    subprocess.run(["rm", "-rf", "keeps", "rattle-kept"], check=True)
+    run(".ci/run")
+    want(read("ran").splitlines(), ["its own plan: low", "1: apart high low pad_server"], "the same where nothing is kept")
+
+
 def a_program_that_was_not_built_is_not_played():
     repository(says="0 passed, 1 failed\n", status=1)
     write("top/crates/pad_server/out/pad_server", "old\n")
-    write("bin/rt", RT.replace("echo \"of", "false \"of").replace(">crates/pad_server/out/pad_server", ""))
+    write("rattle/bin/rt", RT.replace("echo \"of", "false \"of").replace(">crates/pad_server/out/pad_server", ""))
     run(".ci/run")
     want(os.path.exists("top/crates/pad_server/out/pad_server"), False, "that an old program is played")
 
@@ -299,6 +320,7 @@ TESTS = [
     Test("full check: the minute of each proof is told", the_minute_of_each_proof_is_told),
     Test("full check: what failed is told again at the end", what_failed_is_told_again_at_the_end),
     Test("full check: as many crates are proved at a time as fit", as_many_crates_are_proved_at_a_time_as_fit),
+    Test("full check: the first and the last crates have all processors", the_first_and_the_last_crates_have_all_processors),
     Test("full check: a program that was not built is not played", a_program_that_was_not_built_is_not_played),
     Test("full check: edits are left out after the long run", edits_are_left_out_after_the_long_run),
     Test("full check: what has changed brings edits back", what_has_changed_brings_edits_back, 60),

@@ -1,18 +1,22 @@
 -- How the files that a process may have open are shared out.
-use Rattle.std.specs.Prelude.{ℕ, ◌+◌, ◌≤◌, min}
+use Rattle.std.specs.Prelude.{ℕ, ◌+◌, ◌-◌, ◌/◌, max, min}
 use Rattle.tcp_server.specs.declared.room.Room.{Room}
+
+-- a share of so many files: what is asked for, as far as they go, and one of none
+abbrev pub share : ℕ → ℕ → ℕ
+share files asked = min asked (max files 1)
+
+-- at most a quarter of the files for pads, at most an eighth for HTTP requests, and the rest for clients
+abbrev pub shared_out : ℕ → Room → Room
+shared_out files asked =
+    let pads = share (files / 4) asked.pads in
+    let page_requests = share (files / 8) asked.page_requests in
+    record {
+      clients = share (files - pads - page_requests) asked.clients;
+      page_requests = page_requests;
+      pads = pads;
+    }
 
 -- the files that are open where all that may be there is there
 abbrev pub files_of : Room → ℕ
 files_of room = room.clients + room.page_requests + room.pads
-
--- a share is no more than was asked for, and at least one where any was
-abbrev pub IsShare : ℕ → ℕ → Type 0
-IsShare share asked = (share ≤ asked) × (min asked 1 ≤ share)
-
--- each share of a room is one of what was asked for
-abbrev pub IsWithin : Room → Room → Type 0
-IsWithin room asked =
-    IsShare room.clients asked.clients
-    × IsShare room.page_requests asked.page_requests
-    × IsShare room.pads asked.pads

@@ -1,6 +1,7 @@
 //! How the files that the process may have open are shared out among clients, HTTP requests and pads.
-ghost use Rattle.std.specs.Prelude.{◌≤◌, max};
-ghost use Rattle.tcp_server.specs.Room.{IsShare, IsWithin, files_of};
+ghost use Rattle.std.specs.Prelude.{◌≡◌, ◌≤◌, max};
+ghost use Rattle.tcp_server.specs.Room as room;
+ghost use Rattle.tcp_server.specs.Room.{files_of, shared_out};
 
 use crate::other_threads::SYNCERS;
 use crate::settings::Settings;
@@ -44,7 +45,7 @@ impl Room {
     /// Shares out a number of files: to pads at most a quarter, to HTTP requests at most an eighth, and the rest to clients. None gets
     /// more than it asks for, and each that asks for some gets one, even of none.
     pub fn within(files: u64, asked: Room) -> Room
-        ensures asked { IsWithin result asked }
+        ensures shared { result ≡ shared_out files asked }
         ensures files { files_of result ≤ max files 3 }
     {
         let pads = share(files / 4, asked.pads);
@@ -62,8 +63,7 @@ impl Room {
 
 // A share of a number of files: all that are asked for, or as many as there are, and one of none.
 fn share(files: u64, asked: u32) -> u32
-    ensures asked { IsShare result asked }
-    ensures files { result ≤ max files 1 }
+    ensures { result ≡ room.share files asked }
 {
     u32::try_from(files).unwrap_or(u32::MAX).max(1).min(asked)
 }

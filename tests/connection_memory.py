@@ -88,7 +88,7 @@ def who_moves_without_memory_leaves_its_pads():
         told.append(answer)
         bob.close()
         end = time.monotonic() + 10
-        while [visit["author"] for visit in ann.does(do="who", pad="p")["who"]] != ["ann@1"]:
+        while "bob@1" in visitors(server):
             if time.monotonic() > end:
                 raise Failed(f"with allocation {allocation} refused, who has gone is still on the pad")
             time.sleep(0.02)
@@ -100,6 +100,14 @@ def who_moves_without_memory_leaves_its_pads():
     want(told[-1], None, "what is told with all memory")
     want(set(told) <= {None, b"", LINE.encode()}, True, f"900 or nothing, and not {told}")
     want(LINE.encode() in told, True, f"that who finds no memory on the way is told so, and not {told}")
+
+
+def visitors(server):
+    """Who is on the pad p, asked by a connection of its own: on a busy machine the refused allocation may be one of another client's."""
+    ann = server.author("ann", "p")
+    present = [visit["author"] for visit in ann.does(do="who", pad="p")["who"]]
+    ann.close()
+    return present
 
 
 def begin_long_line(client):

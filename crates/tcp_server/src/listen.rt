@@ -7,7 +7,7 @@ use crate::numbers_page::with_numbers;
 use crate::opened::{Opened, open_pads};
 use crate::other_threads::{Ends, start_exchange, start_help, start_sending, start_status};
 use crate::pad_gate::PadGate;
-use crate::room::Room;
+use crate::room::FileShares;
 use crate::sender::sender_of;
 use crate::serving_error::ServingError;
 use crate::settings::{Settings, StandbyPeer};
@@ -268,7 +268,7 @@ where
 }
 
 /// The limits of the settings, as far as there is room for them.
-fn limits_of(asked: Settings<'_>, room: Room) -> Limits {
+fn limits_of(asked: Settings<'_>, room: FileShares) -> Limits {
     Limits {
         connections: asked.connections,
         clients: room.clients,

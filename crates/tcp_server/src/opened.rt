@@ -2,7 +2,7 @@
 ghost use Rattle.std.specs.Prelude.{◌≤◌};
 ghost use Rattle.server_core.specs.declared.limits.TheConstants.{MAX_CELLS};
 
-use crate::room::{Room, room_of};
+use crate::room::{FileShares, room_of};
 use crate::serving_error::ServingError;
 use crate::settings::{Settings, StandbyPeer};
 use crate::threads::seats_for;
@@ -32,7 +32,7 @@ pub struct Opened {
     pub keeper: Option<Keeper>,
     pub accounts: Accounts,
     /// How many files may be open, of which kinds.
-    pub room: Room,
+    pub room: FileShares,
     /// The state that the threads that exchange with peers share, and the means to stop them.
     pub exchange: Exchange,
     pub stop: Stop,
@@ -164,7 +164,7 @@ fn stored_row<'a, R>(
     asked: Settings<'a>,
     folder: &'a str,
     seats: u32,
-    room: Room,
+    room: FileShares,
 ) -> Result<OpenedRow, ServingError<'a>>
 where
     R: Runtime<A = Global, File = File> + Threads + Wait + Eprint + Sync,
@@ -215,7 +215,7 @@ fn open_row_of<R: AllocGlobal + Wait>(
     rt: &R,
     row: OpenedRow,
     accounts: Accounts,
-    room: Room,
+    room: FileShares,
 ) -> Result<Opened, Refusal> {
     match shared_parts(rt, row.cells.as_slice(), accounts.peers().len()) {
         Ok(shared) => Ok(Opened {

@@ -33,7 +33,7 @@ const PEER: u64 = 4;
 
 /// How many of each may be open at once.
 #[derive(Clone, Copy)]
-pub struct Room {
+pub struct FileShares {
     pub clients: u32,
     /// HTTP requests that are read or answered.
     pub page_requests: u32,
@@ -41,10 +41,10 @@ pub struct Room {
     pub pads: u32,
 }
 
-impl Room {
+impl FileShares {
     /// Shares out a number of files: to pads at most a quarter, to HTTP requests at most an eighth, and the rest to clients. None gets
     /// more than it asks for, and each that asks for some gets one, even of none.
-    pub fn within(files: u64, asked: Room) -> Room
+    pub fn within(files: u64, asked: FileShares) -> FileShares
         ensures shared { result ≡ shared_out files asked }
         ensures files { files_of result ≤ max files 3 }
     {
@@ -53,7 +53,7 @@ impl Room {
         let left = files
             .saturating_sub(u64::from(pads))
             .saturating_sub(u64::from(page_requests));
-        Room {
+        FileShares {
             clients: share(left, asked.clients),
             page_requests,
             pads,
@@ -69,17 +69,17 @@ fn share(files: u64, asked: u32) -> u32
 }
 
 /// The room of a server with so many peers, by the limit of the system.
-pub fn room_of<R: Threads>(rt: &R, asked: Settings<'_>, peers: usize) -> Room {
+pub fn room_of<R: Threads>(rt: &R, asked: Settings<'_>, peers: usize) -> FileShares {
     let wanted = wanted_room(asked);
     match most_files() {
-        Some(limit) => Room::within(limit.saturating_sub(taken(rt, asked, peers)), wanted),
+        Some(limit) => FileShares::within(limit.saturating_sub(taken(rt, asked, peers)), wanted),
         None => wanted,
     }
 }
 
 // The room that the settings ask for.
-fn wanted_room(asked: Settings<'_>) -> Room {
-    Room {
+fn wanted_room(asked: Settings<'_>) -> FileShares {
+    FileShares {
         clients: asked.clients,
         page_requests: if asked.web.is_some() {
             PAGE_REQUESTS
@@ -106,7 +106,7 @@ fn taken<R: Threads>(rt: &R, asked: Settings<'_>, peers: usize) -> u64 {
 }
 
 /// Warns if fewer clients may be connected than the settings say.
-pub fn warn_of_room<R: Clock + Eprint>(rt: &R, asked: Settings<'_>, room: Room) {
+pub fn warn_of_room<R: Clock + Eprint>(rt: &R, asked: Settings<'_>, room: FileShares) {
     let (clients, allowed) = (asked.clients, room.clients);
     if let (true, Some(limit)) = (allowed < clients, most_files()) {
         warn!(ServerLog(rt); "the open-file limit ({limit}) has room for {allowed} of {clients} clients; raise it with ulimit -n");

@@ -104,7 +104,8 @@ def who_moves_without_memory_leaves_its_pads():
 
 def visitors(server):
     """Who is on the pad p, asked by a connection of its own: on a busy machine the refused allocation may be one of another client's."""
-    ann = server.author("ann", "p")
+    ann = server.author("ann")
+    ann.join("p")
     present = [visit["author"] for visit in ann.does(do="who", pad="p")["who"]]
     ann.close()
     return present

@@ -50,6 +50,8 @@ def refuses_what_is_kept(ann, bob, cid, made):
         (ann, {"do": "comment", "pad": "p", "rev": made, "at": 0, "len": 1, "text": "why?"}),
         (ann, {"do": "resolve", "pad": "p", "comment": [1, 1]}),
         (ann, {"do": "grant", "pad": "p", "author": "eve", "right": "read"}),
+        (ann, {"do": "close", "pad": "p"}),
+        (ann, {"do": "reopen", "pad": "p"}),
         (ann, {"do": "mark", "pad": "p", "rev": 0, "text": "Draft"}),
         (cid, {"do": "join", "pad": "p"}),
         (bob, {"do": "create", "pad": "q"}),

@@ -45,6 +45,7 @@ def story(name, *exchanges, args=ARGS):
 
 
 CREATE, CREATED = '{"do":"create","pad":"p"}', '{"now":0,"ok":true,"visit":1}'
+CLOSE, REOPEN = '{"do":"close","pad":"p"}', '{"do":"reopen","pad":"p"}'
 JOIN, VECTOR, RIGHTS = '{"do":"join","pad":"p"}', '{"do":"vector","pad":"p"}', '{"do":"rights","pad":"p"}'
 
 
@@ -83,6 +84,7 @@ BEGIN = ("ann", CREATE, CREATED)
 BOBS = '{"after":[2,1],"author":"bob","first":[5,2],"kind":"insert","name":[2,1],"seen":[[1,1]],"text":"X"}'
 ANNS = '{"author":"ann","kind":"delete","name":[1,2],"seen":[],"spans":[[2,1,2]]}'
 DENIED, PEER_FAULT, BAD_OP, OLD_PEER = refusal(312, "Denied"), refusal(403, "PeerFault"), refusal(400, "BadOp"), refusal(405, "OldPeer")
+NOT_JOINED, CLOSED = refusal(310, "NotJoined"), refusal(330, "PadClosed")
 NO_REPLICA = "a replica number is 1 to 65535"
 TITLE = "=== one\n"
 
@@ -196,6 +198,31 @@ STORIES = [
         args=f"{ARGS} --present 2",
     ),
     story("one may be present", BEGIN, ("s", HELLO["ann"], welcome("ann")), ("s", JOIN, refusal(313, "Crowded")), args=f"{ARGS} --present 1"),
+    story(
+        "an owner closes a pad, and opens it again",
+        BEGIN,
+        ABCD,
+        ("ann", grant("bob", "write"), '{"now":1,"ok":true}'),
+        ("bob", JOIN, '{"now":1,"ok":true,"visit":2}'),
+        ("bob", CLOSE, DENIED),
+        ("ann", CLOSE, '{"now":1,"ok":true}'),
+        ("bob", insert(1, 0, "x"), NOT_JOINED),
+        ("bob", JOIN, NOT_JOINED),
+        ("s", HELLO["bob"], welcome("bob")),
+        ("s", JOIN, CLOSED),
+        ("ann", insert(9, 0, "x"), CLOSED),
+        ("ann", grant("ann", "read"), CLOSED),
+        ("ann", read("text"), text(1, "abcd")),
+        ("ann", RIGHTS, '{"closed":true,"now":1,"ok":true,"rights":[["ann","own"],["bob","write"]]}'),
+        ("s", '{"do":"pads"}', '{"ok":true,"pads":[["p","write",1,"closed"]]}'),
+        ("two", push(typed(2, 1, "[[1,1]]", 5, "[4,1]", "x")), CLOSED),
+        ("two", VECTOR, seen(1, "[[1,1]]")),
+        ("ann", REOPEN, '{"now":1,"ok":true}'),
+        ("two", push(typed(2, 1, "[[1,1]]", 5, "[4,1]", "x")), pushed("delivered", 2)),
+        ("s", JOIN, '{"now":2,"ok":true,"visit":3}'),
+        ("s", read("text"), text(2, "abcdx")),
+        ("bob", JOIN, NOT_JOINED),
+    ),
     story("a connection begins unauthenticated", ("eve", CREATE, NO_SESSION), BEGIN),
     run(
         "a title begins with a new server and no session",

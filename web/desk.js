@@ -5,9 +5,8 @@ import { authorsOf, colourOf, giveColours } from "./colours.js";
 import { Editor } from "./editor.js";
 import { reason } from "./enter.js";
 import { ExportMenu } from "./export_menu.js";
-import { FindBar } from "./find_bar.js";
 import { FormatBar } from "./format_bar.js";
-import { letterOf } from "./keys.js";
+import { letterOf } from "./input.js";
 import { Legend } from "./legend.js";
 import { Notice } from "./notice.js";
 import { $, element, gather, later, say } from "./page.js";
@@ -28,7 +27,7 @@ const FULL = [314, 324, 325, 327, 328], DENIED = 312;
 export class Desk {
   // `onClose` is called when the pad is closed, and `onLogOut` when the author logs out though changes are lost.
   constructor(session, { displays, onClose, onLogOut }) {
-    Object.assign(this, { session, displays, onClose, isOpen: false, isShutOut: false, percent: 0 });
+    Object.assign(this, { session, displays, onClose, isOpen: false, isShutOut: false, percent: 0, rights: null, closed: null, find: null, who: null });
     this.place = gather(() => this.placeAll());
     this.legend = new Legend();
     this.told = new Told();
@@ -50,7 +49,7 @@ export class Desk {
     this.carets = new Carets($("carets"));
     this.past = new Past(session, {
       displays,
-      onShow: () => { this.who?.hide(); this.loadWho().catch(() => {}); this.showEditable(); this.views.other(); this.remarks.draw(); this.place(); this.list(); this.find.changed(); },
+      onShow: () => { this.who?.hide(); this.loadWho().catch(() => {}); this.showEditable(); this.views.other(); this.remarks.draw(); this.place(); this.list(); this.find?.changed(); },
       onRestore: (delta, rev) => this.steps.restore(delta, rev),
     });
     this.loadGoOn = later(async () => {
@@ -60,20 +59,19 @@ export class Desk {
     this.notice = new Notice(session.kept, {
       onGoOn: () => this.loadGoOn().then((box) => box.open(), () => this.notice.show(WORDS.noServer)), onClose: () => this.close(true), onLogOut, onForget: () => session.drafts.dropRefused(),
     });
-    this.rights = null;
     this.loadRights = later(async () => { this.rights = new (await import("./rights.js")).RightsBox(session, (text) => say($("news"), text)); });
+    this.loadClosed = later(async () => { this.closed = new (await import("./closing.js")).ClosedBar(this); });
     this.steps = new Steps(this);
     this.format = new FormatBar(this.editor);
-    this.find = new FindBar({
+    this.loadFind = later(async () => { this.find = new (await import("./find_bar.js")).FindBar({
       source: () => this.searched, onClose: () => (this.past.shown ? $("past") : $("text")).focus(),
       onOpen: () => { if (this.views.mode === "minutes") this.views.setMode("text"); },
-    });
+    }); });
     this.views = new Views(this);
-    this.who = null;
     this.loadWho = later(async () => { this.who = new (await import("./who_wrote.js")).WhoWrote(this); });
     this.exports = new ExportMenu(() => (this.isOpen ? this.revision : null), () => this.views.ready().then(() => $("minutes")));
     this.acts = {
-      m: () => this.remarks.ask(), n: () => this.remarks.next(), s: () => this.remarks.suggest(), f: () => this.find.open(true),
+      m: () => this.remarks.ask(), n: () => this.remarks.next(), s: () => this.remarks.suggest(), f: () => { $("find").focus(); this.toFind(() => this.find.open(true)); },
       o: () => this.views.outline.open(), v: () => this.views.next(), h: () => $("history").click(), w: () => this.askWho(),
     };
     this.listen();
@@ -86,6 +84,7 @@ export class Desk {
     for (const id of ["who-wrote", "menu-who-wrote"]) on(id, () => this.askWho());
     $("paper").addEventListener("pointerover", (event) => this.loadWho().then(() => this.who.pointed(event), () => {}), { once: true });
     on("rights", () => this.loadRights().then(() => this.rights.open(), () => this.notice.show(WORDS.noServer)));
+    on("find", () => this.toFind(() => this.find.open(!this.find.isOpen)));
     on("close", () => this.close());
     addEventListener("keydown", (event) => this.keyDown(event));
     addEventListener("beforeunload", (event) => {
@@ -113,6 +112,9 @@ export class Desk {
   // What tells who wrote a character is loaded once somebody may want to know.
   askWho() { this.loadWho().then(() => this.who.ask(), () => this.notice.show(WORDS.noServer)); }
 
+  // So is what finds words. Until it is there, nothing that is typed goes into the text.
+  toFind(act) { this.loadFind().then(act, () => this.notice.show(WORDS.noServer)); }
+
   // ---- opening and closing
 
   // Whether what is drawn is the pad that is open.
@@ -130,7 +132,7 @@ export class Desk {
     // What was drawn of another pad can look the same by its key.
     Object.assign(this, { percent: 0, peopleKey: null, isShutOut: false });
     this.steps.forget();
-    this.find.open(false);
+    this.find?.open(false);
     this.told.forget();
     this.phone.open(false);
     this.displays.forget();
@@ -187,10 +189,10 @@ export class Desk {
     this.showState();
   }
 
-  // Closes the pad once everything is sent. Words that cannot be sent in some seconds keep it open, and words that were
-  // refused and not copied, unless the author has decided to lose them. Resolves to whether the pad is closed.
+  // Leaves the pad once everything is sent, or is kept until it can be. Words that cannot be sent in some seconds keep it here, and words
+  // that were refused and not copied, unless the author has decided to lose them. Resolves to whether the pad is left.
   async close(isForced = false) {
-    const { session } = this, { pad } = session, isSettled = isForced || await session.settle();
+    const { session } = this, { pad } = session, isSettled = isForced || (session.isShut && session.drafts.areKept) || await session.settle();
     if (!pad || pad !== session.pad) return false;
     if (!isSettled) { this.showUnsaved(); return false; }
     if (!isForced && session.kept.areWaiting) { this.notice.show(WORDS.uncopied, { canClose: true }); return false; }
@@ -248,6 +250,7 @@ export class Desk {
     this.showEditable();
     this.past.describe();
     this.rights?.draw();
+    if (session.isClosed || this.closed) this.loadClosed().then(() => this.closed.draw(), () => this.notice.show(WORDS.closed));
     this.remarks.draw();
     this.showState();
   }
@@ -260,6 +263,7 @@ export class Desk {
     this.views.minutes.setEditable(isEditable && !editor.suggests);
     this.steps.show();
     $("comment").disabled = $("suggest").disabled = !mayComment;
+    $("history").disabled = session.isShut && !this.past.isOpen; // nothing is told to who was put out
   }
 
   type(delta) {
@@ -329,6 +333,7 @@ export class Desk {
   over(text) {
     this.session.right = "none";
     this.showEditable();
+    this.closed?.draw();
     this.notice.show(text, { unsent: this.session.unsentWords });
     this.showState();
   }

@@ -4,8 +4,7 @@
 // until the input method ends or rests.
 import { add, apply, compose, extent, isEmpty, move, snapped, splice, transform, typed } from "../clients/js/src/delta.js";
 import { Drag } from "./drag.js";
-import { insertedBy, isComposing, isDeleting } from "./input.js";
-import { letterOf } from "./keys.js";
+import { insertedBy, isComposing, isDeleting, letterOf } from "./input.js";
 import { Lines } from "./lines.js";
 import { edgeAfter, edgeBefore } from "../clients/js/src/units.js";
 import { enter, once, tab } from "./writing.js";

@@ -7,7 +7,7 @@ import { Lost, Superseded, Unsaved } from "../clients/js/src/errors.js";
 import { begin, offerTemplates, templateText } from "./templates.js";
 import { WORDS, refusal } from "./words.js";
 
-const NO_PAD = 300, DENIED = 312;
+const NO_PAD = 300, DENIED = 312, CLOSED = 330;
 
 // What an error means, in words.
 export function reason(error) {
@@ -124,9 +124,10 @@ export class Enter {
       if (this.isAtDoor) await this.door.introduce();
     } catch (error) {
       if (error instanceof Superseded) return;
-      const code = error.reply?.code, text = code === DENIED || (code === NO_PAD && this.isAtDoor) ? WORDS.noRight : reason(error);
+      const code = error.reply?.code, isKept = code === CLOSED && (await this.kept.unsent()).includes(name);
+      const text = code === DENIED || (code === NO_PAD && this.isAtDoor) ? WORDS.noRight : reason(error) + (isKept ? ` ${WORDS.closedKept}` : "");
       if (this.isAtDoor) this.door.show(text); else say($("open-error"), text);
-      if (error.reply) this.onRefused(name);
+      if (error.reply && code !== CLOSED) this.onRefused(name);
       return;
     }
     begin(this.session, text);

@@ -1,6 +1,6 @@
 // The menu that gives out the shown revision: as minutes in HTML, as a text, as Markdown, or on paper.
 import { save, toMarkdown } from "./exports.js";
-import { letterOf } from "./keys.js";
+import { letterOf } from "./input.js";
 import { Menu } from "./menu.js";
 import { headOf, toHtml } from "./paper.js";
 import { $ } from "./page.js";

@@ -12,7 +12,6 @@ export class FindBar {
     Object.assign(this, { source, onOpen, onClose, found: [], index: 0, said: "" });
     this.soon = gather(() => this.search(), (act) => setTimeout(act, SOON));
     const on = (id, act, kind = "click") => $(id).addEventListener(kind, act);
-    on("find", () => this.open(!this.isOpen));
     const again = () => { this.said = ""; this.search(this.place); };
     on("find-words", again, "input");
     on("find-exact", again, "change");

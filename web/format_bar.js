@@ -1,5 +1,5 @@
 // The buttons and keys that write Markdown for those who do not know it.
-import { letterOf } from "./keys.js";
+import { letterOf } from "./input.js";
 import { $ } from "./page.js";
 import { heading, link, list, wrap } from "./writing.js";
 

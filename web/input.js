@@ -1,4 +1,4 @@
-// What the events of a browser say about the text.
+// What the events of a browser say: about the text, and about keys.
 const DELETING = /^delete/, COMPOSING = ["insertCompositionText", "deleteCompositionText", "insertFromComposition"];
 const INSERTING = /^insert(Text|ReplacementText|FromPaste|FromYank|Transpose)/;
 
@@ -23,4 +23,12 @@ export function placeAt(x, y) {
   }
   const place = document.caretRangeFromPoint?.(x, y);
   return place ? { node: place.startContainer, offset: place.startOffset } : null;
+}
+
+// The letter of a key, for a shortcut: what the key types, as on a Dvorak keyboard, unless that is a letter of another script
+// than the Latin. Then it is the letter at the key's place on a keyboard of the United States, so that Ctrl+Z is the same key
+// on Cyrillic, Greek and Hebrew ones.
+export function letterOf({ key, code }) {
+  const typed = key.toLowerCase(), isForeign = /^(?!\p{Script=Latin})\p{L}$/u.test(typed);
+  return isForeign ? code.match(/^Key([A-Z])$/)?.[1].toLowerCase() ?? typed : typed;
 }

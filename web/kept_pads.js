@@ -3,7 +3,6 @@
 import { named, setOrigin } from "./authors.js";
 import { isGuest } from "../clients/js/src/guests.js";
 import { guestNamed } from "./guest_secrets.js";
-import { doubt, forgetLogIn, stay, stayAsGuest, stayed } from "./log_in_link.js";
 import { $, element, say } from "./page.js";
 import { timeOf } from "./times.js";
 import { WORDS } from "./words.js";
@@ -40,54 +39,4 @@ export class KeptPads {
   // What is kept of the author's pads; and the names of those of which something is not sent in no window that is open.
   async ofAuthor() { return (await this.list()).filter(({ name }) => name === this.session.name); }
   async unsent() { return (await this.ofAuthor()).filter((note) => note.isUnsent && !note.isElsewhere).map(({ pad }) => pad); }
-}
-
-// The dialog that logs in again, once there is a connection, with a pad that was opened without one.
-export class LogInAgain {
-  constructor(session, reason) {
-    Object.assign(this, { session, reason });
-    $("log-in-again").addEventListener("click", () => {
-      this.open();
-      if (guestNamed(session.name)) this.logIn(); // there is nothing to type
-    });
-    $("again").addEventListener("submit", (event) => { event.preventDefault(); this.logIn(); });
-    $("again-cancel").addEventListener("click", () => $("again-box").close());
-  }
-
-  open(token = this.token) {
-    say($("again-who"), WORDS.logInAs(named(this.session.me)));
-    say($("again-error"), "");
-    $("again-name").value = this.session.name;
-    $("again-token").value = token;
-    $("again-stay").checked = $("stay").checked;
-    if (!$("again-box").open) $("again-box").showModal();
-  }
-
-  // That of the tab, if it has stayed this author's, and that of a guest that this browser was.
-  get token() {
-    const login = stayed(), guest = guestNamed(this.session.name);
-    if (guest) return `${guest.link}.${guest.own}`;
-    return login?.name === this.session.name ? login.token : "";
-  }
-
-  // Resolves to whether the author is logged in.
-  async logIn() {
-    const token = $("again-token").value;
-    say($("again-error"), "");
-    $("again-go").disabled = true;
-    try { await this.session.logInAgain(token); } catch (error) {
-      doubt(error);
-      say($("again-error"), this.reason(error));
-      $("again-token").select();
-      return false;
-    } finally { $("again-go").disabled = false; }
-    $("stay").checked = $("again-stay").checked;
-    const guest = guestNamed(this.session.name);
-    if (guest) stayAsGuest(guest);
-    else if ($("stay").checked) stay(this.session.name, token);
-    else forgetLogIn();
-    $("again-token").value = "";
-    $("again-box").close();
-    return true;
-  }
 }

@@ -3,12 +3,12 @@ import { Displays, learnEarlier, setOrigin } from "./authors.js";
 import { Desk } from "./desk.js";
 import { DraftStore } from "./draft_store.js";
 import { Enter, reason } from "./enter.js";
-import { KeptPads, LogInAgain } from "./kept_pads.js";
+import { KeptPads } from "./kept_pads.js";
 import { KeysBox } from "./keys_box.js";
 import { offerLanguages } from "./language.js";
 import { LogIn } from "./log_in.js";
 import { Machines } from "./machines.js";
-import { $, label } from "./page.js";
+import { $, label, later } from "./page.js";
 import { LostRevisions, Taken } from "../clients/js/src/errors.js";
 import { Session } from "../clients/js/src/session.js";
 import { tellIfUnproved } from "./unproved.js";
@@ -25,13 +25,14 @@ const kept = new KeptPads(session, store, { onPad: () => desk.open() });
 const displays = new Displays(session, () => { desk.renamed(); enter.renamed(); });
 const enter = new Enter(session, kept, {
   displays,
-  onPad: (found) => { desk.open(); if (found) desk.find.show(found); }, onLeave: () => desk.close(), onRefused: (name) => desk.notOpened(name),
+  onPad: (found) => { desk.open(); if (found) desk.toFind(() => desk.find.show(found)); }, onLeave: () => desk.close(), onRefused: (name) => desk.notOpened(name),
 });
 const desk = new Desk(session, { displays, onClose: () => (logIn.isLeaving ? null : enter.show()), onLogOut: () => logIn.logOut(true) });
 const machines = new Machines(session);
-const again = new LogInAgain(session, reason);
+const loadAgain = later(async () => new (await import("./log_in_again.js")).LogInAgain(session));
+const logInAgain = (token) => loadAgain().then((again) => again.ask(token), () => desk.notice.show(WORDS.noServer));
 const logIn = new LogIn(session, {
-  kept, enter, onIn: () => { machines.logIn(); learnNumbers(); }, onAgain: (token) => { again.open(token); return again.logIn(); },
+  kept, enter, onIn: () => { machines.logIn(); learnNumbers(); }, onAgain: logInAgain,
   onStay: () => desk.notice.show(""), onUnsent: (text) => desk.notice.show(text, { canLogOut: true }),
 });
 new KeysBox();
@@ -43,7 +44,7 @@ offerLanguages(() => {
 
 const whenOpen = (event, act) => session.on(event, (...given) => { if (desk.isShowing) act(...given); });
 whenOpen("receive", (delta) => desk.receive(delta));
-whenOpen("change", (delta) => { desk.who?.changed(delta); desk.views.changed(delta); desk.remarks.changed(); desk.find.changed(); });
+whenOpen("change", (delta) => { desk.who?.changed(delta); desk.views.changed(delta); desk.remarks.changed(); desk.find?.changed(); });
 whenOpen("revision", () => desk.moved());
 whenOpen("presence", () => desk.showPeople());
 whenOpen("come", (author) => desk.came(author));
@@ -78,6 +79,7 @@ document.addEventListener("visibilitychange", () => {
   if (session.pad && !document.hidden) session.refresh();
 });
 addEventListener("online", () => session.hurry());
+$("log-in-again").addEventListener("click", () => logInAgain());
 $("skip").addEventListener("click", (event) => {
   event.preventDefault();
   $("text").focus();

@@ -16,7 +16,7 @@ export class PadList {
     $("pads-search").addEventListener("input", () => this.draw());
   }
 
-  // `pads` are { name, right, now, isUnsent, keptAt }: `keptAt` is when this browser has shown it last, or 0.
+  // `pads` are { name, right, now, isClosed, isUnsent, keptAt }: `keptAt` is when this browser has shown it last, or 0.
   show(pads) {
     this.pads = pads.map((pad, order) => ({ ...pad, order })).sort((a, b) => b.keptAt - a.keptAt || b.order - a.order);
     $("no-pads").hidden = pads.length > 0;
@@ -43,12 +43,12 @@ export class PadList {
     const button = element("button", { type: "button" }, element("b", { textContent: pad.name }), said);
     button.addEventListener("click", () => this.onOpen(pad.name));
     this.lines.set(pad.name, said);
-    return element("li", {}, button);
+    return element("li", { className: pad.isClosed ? "is-closed" : "" }, button);
   }
 
-  lineOf({ name, right, now, isUnsent, keptAt }) {
+  lineOf({ name, right, now, isClosed, isUnsent, keptAt }) {
     const { rev, kind, author } = this.last.get(name) ?? {};
-    return WORDS.padLine(right, now, rev === now ? WORDS.madeBy(kind, named(author)) : "", keptAt ? timeOf(keptAt) : "", isUnsent);
+    return WORDS.padLine(right, now, rev === now ? WORDS.madeBy(kind, named(author)) : "", keptAt ? timeOf(keptAt) : "", isUnsent, isClosed);
   }
 
   // Who changed each pad last. The list of the server has only the number of changes, so each pad is asked, one behind the
@@ -56,8 +56,8 @@ export class PadList {
   async askLast() {
     const asks = ++this.asks, { session } = this;
     for (const pad of this.pads.slice(0, MOST_ASKED)) {
-      const { name, now } = pad;
-      if (!now || this.last.get(name)?.rev === now) continue;
+      const { name, now, right, isClosed } = pad;
+      if (!now || this.last.get(name)?.rev === now || (isClosed && right !== "own")) continue;
       try {
         const { entries: [entry] } = await glance(session, name, { do: "entries", from: now, count: 1 });
         if (entry) { this.last.set(name, entry); this.displays.ask([entry.author]); }

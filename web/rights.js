@@ -2,6 +2,7 @@
 import { accountOf, displayOf, fullName } from "./authors.js";
 import { isGuest, isLink, newSecret } from "../clients/js/src/guests.js";
 import { EVERYONE } from "../clients/js/src/rights.js";
+import { CloseQuestion } from "./closing.js";
 import { reason } from "./enter.js";
 import { Refused } from "../clients/js/src/errors.js";
 import { $, element, fill, say } from "./page.js";
@@ -36,7 +37,7 @@ function whoIs(name) {
 
 export class RightsBox {
   constructor(session, onGranted) {
-    Object.assign(this, { session, onGranted, drawn: "", heir: null, takesGuests: null });
+    Object.assign(this, { session, onGranted, drawn: "", heir: null, takesGuests: null, closing: new CloseQuestion(this) });
     $("pad-address").addEventListener("focus", () => $("pad-address").select());
     $("grant").addEventListener("submit", (event) => {
       event.preventDefault();
@@ -53,6 +54,7 @@ export class RightsBox {
   async open() {
     say($("grant-error"), "");
     this.ask(null);
+    this.closing.ask(false);
     choices($("grant-right"), $("grant-right").value || "write");
     choices($("invite-right"), $("invite-right").value || FOR_GUESTS[0], FOR_GUESTS);
     this.showLink("");
@@ -60,24 +62,29 @@ export class RightsBox {
     this.draw();
     $("pad-address").value = new URL(`#${this.session.pad.name}`, location.href).href;
     $("rights-box").showModal();
+    if (this.session.isShut) return; // nothing is told to who was put out
     try { await this.session.readRights(); } catch (error) { say($("grant-error"), reason(error)); }
   }
 
   draw() {
-    const { rights, right } = this.session, key = JSON.stringify([rights, right, rights.map(([name]) => displayOf(name))]);
+    const { isClosed, rights, right } = this.session, key = JSON.stringify([isClosed, rights, right, rights.map(([name]) => displayOf(name))]);
     if (key === this.drawn) return;
     this.drawn = key;
-    $("grant").hidden = $("invite").hidden = right !== "own";
+    $("grant").hidden = $("invite").hidden = !this.mayGive;
+    this.closing.draw();
     const isOpen = rights.some(([name]) => name === EVERYONE), rows = rights.map((entry, k) => this.row(entry, k === 0));
-    if (right === "own" && !isOpen) rows.splice(1, 0, this.row([EVERYONE, "none"], false));
+    if (this.mayGive && !isOpen) rows.splice(1, 0, this.row([EVERYONE, "none"], false));
     $("rights-list").replaceChildren(...rows);
   }
+
+  // On a closed pad no right is changed.
+  get mayGive() { return this.session.right === "own" && !this.session.isClosed; }
 
   // The right of the owner stays, but the owner can hand the pad over. The right of anybody else can be changed by those who
   // may own it.
   row([name, right], isOwner) {
     const cell = element("td"), { session } = this, isKeeper = session.rights[0]?.[0] === session.name;
-    if (isOwner || session.right !== "own") cell.append(RIGHTS[right], isOwner ? ` (${WORDS.inCharge})` : "");
+    if (isOwner || !this.mayGive) cell.append(RIGHTS[right], isOwner ? ` (${WORDS.inCharge})` : "");
     else {
       cell.append(this.choice(name, right));
       if (isKeeper && !areSeveral(name) && !isGuest(name)) cell.append(" ", this.heirButton(name));

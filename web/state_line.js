@@ -12,14 +12,14 @@ export class StateLine {
     const { state } = this.session, isBad = BAD.includes(state), text = this.textOf(state);
     say($("state"), text);
     $("state").className = isBad ? "is-bad" : `is-${state}`;
-    document.body.classList.toggle("is-offline", state === "over" || state === "lost");
+    document.body.classList.toggle("is-offline", this.session.isOver || this.session.isLost);
     this.announce(state, text);
   }
 
   textOf(state) {
-    const { heldBy, mayWrite, right } = this.session;
+    const { heldBy, isClosed, mayWrite, right } = this.session, { closed } = WORDS;
     const held = heldBy && WORDS.held(refusal(heldBy)), lost = this.lostText(mayWrite);
-    return { over: WORDS.over, lost, held, saving: WORDS.saving, saved: mayWrite ? WORDS.saved : WORDS.reading(right) }[state];
+    return { over: WORDS.over, lost, closed, held, saving: WORDS.saving, saved: isClosed ? closed : mayWrite ? WORDS.saved : WORDS.reading(right) }[state];
   }
 
   // What is typed outlives the page only if the browser keeps it.

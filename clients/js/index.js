@@ -3,7 +3,7 @@ import { Session } from "./src/session.js";
 import { webSocket } from "./src/wire.js";
 
 export * as delta from "./src/delta.js";
-export { Lost, LostRevisions, Misfit, Refused, Superseded, Taken, Unsaved } from "./src/errors.js";
+export { Lost, LostRevisions, Misfit, PadClosed, Refused, Superseded, Taken, Unsaved } from "./src/errors.js";
 export { isGuest, isLink, newSecret } from "./src/guests.js";
 export { History } from "./src/history.js";
 export { LIMITS } from "./src/limits.js";

@@ -11,10 +11,11 @@ from scripts_test import NODE, PYTHON
 
 KIT = os.path.join(ROOT, "tests", "conformance")
 JS, PY = [NODE, f"{KIT}/clients/js.mjs"], [PYTHON, f"{KIT}/clients/python.py"]
+LIBRARIES = {"js": ("js", "src", JS), "py": ("python", "vindrughe", PY)}
 ENVIRONMENT = {**os.environ, "PYTHONDONTWRITEBYTECODE": "1"}
 
-# A mistake in the library for JavaScript: its file, a passage that is there once, what stands there instead, and the case that
-# has to fail.
+# A mistake in one of the libraries, by the end of its file's name: the file, a passage that is there once, what stands there instead,
+# and the case that has to fail.
 MISTAKES = [
     ("resume.js", "const found = await look();", "const found = null;", "an unanswered edit that was made is not sent again"),
     ("resume.js", "isGone = !who.some((one) => one.visit === visit);", "isGone = true;", "an unanswered edit that comes late is not sent again"),
@@ -27,8 +28,11 @@ MISTAKES = [
      "const [mine, over] = transform(this.flight, theirs), [shown, pending] = transform(over, this.pending)", "what is typed where others type stays in its place"),
     ("limits.js", "edit: 10000", "edit: 30000", "a long text is sent in pieces"),
     ("limits.js", "parts: 16", "parts: 99", "many places are sent in pieces"),
-    ("connection.js", "CROWDED].includes", "].includes", "a crowded pad is tried again"),
+    ("connection.js", "CROWDED, NOT_JOINED].includes", "NOT_JOINED].includes", "a crowded pad is tried again"),
     ("session.js", "if (PASSING.includes(reply.code)) this.heldBy = reply;\n    else {\n      this.refusal", "{\n      this.refusal", "a full disk passes"),
+    ("open_pad.py", "                if refusal.code == NOT_JOINED:\n                    self._session.renew()\n                    return\n", "", "a visit that somebody ended is no end"),
+    ("connection.py", "_CLOSED_PAUSE = 0.3, 5.0, 30.0", "_CLOSED_PAUSE = 0.3, 5.0, 0.3", "words for a closed pad are not called saved"),
+    ("session.py", 'return "closed" if self._is_shut else "lost"', 'return "saved" if self._is_shut else "lost"', "words for a closed pad are not called saved"),
     ("unsent.js", "if (comment.sent && (await this.wasMade(comment, turn))) return true;", "", "an unanswered comment is made once"),
 ]
 
@@ -55,18 +59,18 @@ def the_library_for_python_conforms():
 
 
 def plant(number, file, passage, other):
-    """A copy of the library with a mistake, and its program for the kit."""
-    top = os.path.abspath(f"planted-{number}")
-    shutil.copytree(f"{ROOT}/clients/js", f"{top}/clients/js")
+    """A copy of a library with a mistake, and its program for the kit."""
+    top, (language, folder, command) = os.path.abspath(f"planted-{number}"), LIBRARIES[file.rpartition(".")[2]]
+    shutil.copytree(f"{ROOT}/clients/{language}", f"{top}/clients/{language}")
     os.makedirs(f"{top}/tests/conformance/clients")
-    shutil.copy(JS[1], f"{top}/tests/conformance/clients")
-    path = f"{top}/clients/js/src/{file}"
+    shutil.copy(command[1], f"{top}/tests/conformance/clients")
+    path = f"{top}/clients/{language}/{folder}/{file}"
     with open(path, encoding="utf-8") as source:
         text = source.read()
     want(text.count(passage), 1, f"how often {file} has {passage!r}")
     with open(path, "w", encoding="utf-8") as source:
         source.write(text.replace(passage, other))
-    return [NODE, f"{top}/tests/conformance/clients/js.mjs"]
+    return [command[0], f"{top}/tests/conformance/clients/{os.path.basename(command[1])}"]
 
 
 def the_kit_finds_mistakes_that_are_planted():

@@ -1,5 +1,5 @@
 // What a user of the types writes. tsc --strict takes it, and refuses each line behind @ts-expect-error.
-import { Delta, History, PadRequests, Refused, Session, connect, count, delta, isGuest, isLink, newSecret, tcp } from "vindrughe";
+import { Delta, History, PadClosed, PadRequests, Refused, Session, connect, count, delta, isGuest, isLink, newSecret, tcp } from "vindrughe";
 import { bindTextarea } from "vindrughe/textarea";
 import { bindCodeMirror } from "vindrughe/codemirror5";
 
@@ -23,6 +23,11 @@ export async function follow(token: string): Promise<string> {
   await guest.introduce("Ben Müller");
   const [{ author: whose, name: called }] = await session.guests(), { guests } = await pad.call({ do: "guests" });
   if (isGuest(whose) && !isLink(whose)) console.log(called + guests[0].name, guest.isGuest);
+  await session.close();
+  const { closed = false } = await pad.call({ do: "rights" });
+  if (session.isClosed && closed && first.isClosed) await session.reopen();
+  if (guest.state === "closed") guest.hurry();
+  await guest.join("minutes").catch((error: unknown) => { if (error instanceof PadClosed) console.log(error.code, error.reply.error); });
   for (const change of changes) if (change[0] === "insert") console.log(change[2].length);
   for (const [who, units] of runs) console.log(who.length + units);
   if (session.state === "over" && session.endedBy instanceof Refused) console.log(session.endedBy.code);

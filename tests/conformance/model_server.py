@@ -4,45 +4,27 @@ from __future__ import annotations
 import hashlib
 import re
 import time
-from collections.abc import Callable
 from dataclasses import dataclass, field
 from typing import Any
 
+from forms import RIGHTS, has_form
 from model import EDITS, Cell, ModelPad, Request
 
-RIGHTS = ["none", "read", "comment", "write", "own"]
-NEEDS = {"insert": "write", "delete": "write", "edit": "write", "comment": "comment", "resolve": "comment", "grant": "own", "hand": "own", "invite": "own", "mark": "write"}
+NEEDS = {
+    **dict.fromkeys((*EDITS, "mark"), "write"), "comment": "comment", "resolve": "comment",
+    **dict.fromkeys(("grant", "hand", "invite", "close", "reopen"), "own"),
+}
+# What nobody may do on a closed pad. Who may not own it cannot join it either.
+SHUT = (*EDITS, "comment", "resolve", "mark", "grant", "hand", "invite")
 NAMES = {
     101: "NotJson", 102: "NotRequest", 200: "NoSession", 201: "BadToken", 202: "HaveSession", 300: "NoPad", 301: "PadExists",
-    303: "BadName", 310: "NotJoined", 311: "Joined", 312: "Denied", 313: "Crowded", 320: "NoRevision", 321: "OutOfRange",
-    322: "Empty", 323: "TooMuch", 326: "NoComment", 329: "NoVisit", 900: "Memory", 901: "StoreFull", 902: "Full",
+    303: "BadName", 310: "NotJoined", 311: "Joined", 312: "Denied", 313: "Crowded", 315: "OwnerKept", 320: "NoRevision",
+    321: "OutOfRange", 322: "Empty", 323: "TooMuch", 326: "NoComment", 329: "NoVisit", 330: "PadClosed", 900: "Memory",
+    901: "StoreFull", 902: "Full",
 }
 MOST = {"edit": 10_000, "comment": 2_000, "parts": 16, "entries": 100, "times": 1_000, "moments": 100, "wait": 60, "marks": 200, "mark": 100, "guest": 60}
 NAME = re.compile(r"[a-z0-9-]{1,32}")
 LETTERS = "abcdefghijklmnopqrstuvwxyz234567"
-CONTROL = re.compile("[\0-\x1f\x7f-\x9f]")
-SECRET = re.compile("[A-Za-z0-9_-]{22}")
-LONE = re.compile("[\ud800-\udfff]")
-
-
-def is_number(value: Any) -> bool:
-    return isinstance(value, int) and not isinstance(value, bool) and value >= 0
-
-
-def is_text(value: Any) -> bool:
-    return isinstance(value, str) and not LONE.search(value)
-
-
-def is_part(value: Any) -> bool:
-    return isinstance(value, dict) and is_number(value.get("at")) and (is_number(value.get("len")) != is_text(value.get("text")))
-
-
-def is_absent_or_number(value: Any) -> bool:
-    return value is None or is_number(value)
-
-
-def is_absent_or_boolean(value: Any) -> bool:
-    return value is None or isinstance(value, bool)
 
 
 def letters_of(text: str) -> str:
@@ -50,60 +32,19 @@ def letters_of(text: str) -> str:
     return "".join(LETTERS[byte & 31] for byte in hashlib.sha256(text.encode()).digest()[:13])
 
 
-def is_secret(value: Any) -> bool:
-    return isinstance(value, str) and SECRET.fullmatch(value) is not None
-
-
-def is_token(value: Any) -> bool:
-    """Two secrets with a point between them."""
-    return isinstance(value, str) and all(map(is_secret, parts := value.split("."))) and len(parts) == 2
-
-
 def is_guest(name: str) -> bool:
     return name.startswith("guest-") and len(name) == 32
 
 
-def is_name(value: Any) -> bool:
-    return isinstance(value, list) and len(value) == 2 and all(map(is_number, value))
-
-
-# The fields that a request has to have, and what each has to be.
-PAD = {"pad": is_text}
-REV = {**PAD, "rev": is_number}
-FORMS: dict[str, dict[str, Callable[[Any], bool]]] = {
-    "hello": {"name": is_text, "token": is_text}, "pads": {},
-    **{do: PAD for do in ("create", "leave", "revs", "who", "rights", "marks")}, "join": {**PAD, "instead": is_absent_or_number},
-    "insert": {**REV, "at": is_number, "text": is_text}, "delete": {**REV, "at": is_number, "len": is_number},
-    "edit": {**REV, "parts": lambda value: isinstance(value, list) and all(map(is_part, value))},
-    "comment": {**REV, "at": is_number, "len": is_number, "text": is_text}, "resolve": {**PAD, "comment": is_name},
-    **{do: {**PAD, "rev": is_absent_or_number} for do in ("text", "runs", "comments")},
-    "changes": {**REV, "to": is_absent_or_number, "wait": is_absent_or_number},
-    "entries": {**PAD, "from": is_number, "count": is_number, "times": is_absent_or_boolean},
-    "times": PAD, "birth": {**REV, "at": is_number}, "caret": {**REV, "at": is_number},
-    "grant": {**PAD, "author": is_text, "right": lambda value: value in RIGHTS}, "hand": {**PAD, "author": is_text},
-    "mark": {**REV, "text": is_text},
-    "guest": {"token": is_token}, "guests": PAD, "introduce": {**PAD, "as": lambda value: is_text(value) and not CONTROL.search(value)},
-    "invite": {**PAD, "secret": is_secret, "right": lambda value: value in ("read", "comment", "write")},
-}
+def names_badly(request: Request) -> bool:
+    """Whether it gives a right, or the pad, to a name that nobody can have. Everyone, `*`, can have a right but own."""
+    if request["do"] not in ("grant", "hand") or NAME.fullmatch(request["author"]):
+        return False
+    return request["do"] == "hand" or request["author"] != "*" or request["right"] == "own"
 
 
 def refuse(code: int) -> Request:
     return {"ok": False, "code": code, "error": NAMES[code]}
-
-
-def has_form(request: Any) -> bool:
-    if not isinstance(request, dict) or request.get("do") not in FORMS:
-        return False
-    if request["do"] == "times" and not has_times(request):
-        return False
-    return all(is_right(request.get(field)) for field, is_right in FORMS[request["do"]].items())
-
-
-def has_times(request: Request) -> bool:
-    """Moments, or else revisions by steps."""
-    if "at" in request:
-        return isinstance(request["at"], list) and all(map(is_number, request["at"]))
-    return all(is_number(request.get(field)) for field in ("from", "step", "count"))
 
 
 @dataclass(eq=False)
@@ -131,7 +72,8 @@ class Given:
 
 @dataclass
 class Room:
-    """A pad, its visits, who is there by these, who has which right, and the names of revisions."""
+    """A pad, its visits, who is there by these, who has which right, the names of revisions, what guests are called, and whether an
+    owner has closed it."""
 
     pad: ModelPad
     rights: dict[str, str]
@@ -139,6 +81,15 @@ class Room:
     present: dict[int, Visitor] = field(default_factory=dict)
     marks: list[Request] = field(default_factory=list)
     guests: dict[str, str] = field(default_factory=dict)
+    is_closed: bool = False
+
+    @property
+    def owner(self) -> str:
+        return next(iter(self.rights))
+
+    def listed(self) -> list[list[str]]:
+        """The owner, everyone, and then the others by their first grant."""
+        return [list(one) for one in sorted(self.rights.items(), key=lambda one: (one[0] != self.owner, one[0] != "*"))]
 
     def visit(self, number: int) -> Given:
         """A visit, or nobody's if the number was never given out."""
@@ -202,7 +153,7 @@ class ModelServer:
         if request["do"] == "pads":
             return {"ok": True, "pads": self._pads(session.name)}
         name = request["pad"]
-        if not NAME.fullmatch(name):
+        if not NAME.fullmatch(name) or names_badly(request):
             return refuse(303)
         if request["do"] == "create" and is_guest(session.name):
             return refuse(312)
@@ -231,7 +182,8 @@ class ModelServer:
         return {"ok": True, "author": self.author(session.name)}
 
     def _pads(self, name: str) -> list[list[Any]]:
-        return [[pad, self.right_of(name, room), room.pad.now] for pad, room in self.rooms.items() if self.may(name, room, "read")]
+        rooms = [(pad, room) for pad, room in self.rooms.items() if self.may(name, room, "read")]
+        return [[pad, self.right_of(name, room), room.pad.now, *(["closed"] if room.is_closed else [])] for pad, room in rooms]
 
     def _create(self, session: Session, author: str, name: str) -> Request:
         room = self.rooms[name] = Room(ModelPad(), {author: "own"})
@@ -252,6 +204,8 @@ class ModelServer:
             return {"ok": True, "now": room.pad.now}
         if not self.may(author, room, NEEDS.get(do, "read")) or (do == "introduce" and not is_guest(author)):
             return refuse(312)
+        if room.is_closed and do in SHUT:
+            return refuse(330)
         return self._refusal(room, request) or self._answer(session, author, room, request)
 
     def _join(self, session: Session, author: str, name: str, room: Room, instead: int | None) -> Request:
@@ -260,6 +214,8 @@ class ModelServer:
             return refuse(311 if self._is_in(session, name, room) else 310)
         if not self.may(author, room, "read"):
             return refuse(312)
+        if room.is_closed and not self.may(author, room, "own"):
+            return refuse(330)
         old = None if instead is None else room.visit(instead)
         if old and old.author != author:
             return refuse(329)
@@ -292,6 +248,8 @@ class ModelServer:
             return refuse(322) if request["count"] == 0 else refuse(323) if request["count"] > MOST["entries"] else None
         if do == "times":
             return self._refusal_of_times(now, request)
+        if do == "grant":
+            return refuse(315) if request["author"] == room.owner else None
         if do == "introduce":
             return refuse(322) if not request["as"] else refuse(323) if len(request["as"]) > MOST["guest"] else None
         if do == "mark":
@@ -323,7 +281,10 @@ class ModelServer:
         if do == "who":
             answer = {"who": self._who(room)}
         elif do == "rights":
-            answer = {"rights": [list(one) for one in room.rights.items()]}
+            answer = {"rights": room.listed(), **({"closed": True} if room.is_closed else {})}
+        elif do in ("close", "reopen"):
+            self.set_closed(room, do == "close")
+            answer = {}
         elif do == "grant":
             room.rights[request["author"]] = request["right"]
             if request["right"] == "none":
@@ -343,7 +304,7 @@ class ModelServer:
         elif do == "marks":
             answer = {"marks": list(room.marks)}
         elif do == "hand":
-            if author != next(iter(room.rights)):
+            if author != room.owner:
                 return refuse(312)
             self._hand(room, author, request["author"])
             answer = {}
@@ -360,6 +321,12 @@ class ModelServer:
         if reply["ok"] and "name" in reply:
             visit.made, visit.last = visit.made + 1, reply["name"]
         return reply
+
+    def set_closed(self, room: Room, is_closed: bool) -> None:
+        """Closing ends the visits of all who may not own the pad. Their sessions do not hear of it."""
+        room.is_closed = is_closed
+        if is_closed:
+            room.present = {visit: one for visit, one in room.present.items() if self.may(one.name, room, "own")}
 
     def _hand(self, room: Room, owner: str, heir: str) -> None:
         """The heir is listed first, and the owner before it last, with the right to write."""

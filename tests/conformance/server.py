@@ -11,7 +11,8 @@ from collections import deque
 from collections.abc import Callable
 from typing import Any
 
-from model_server import ModelServer, Session, has_form, is_edit, refuse
+from forms import has_form
+from model_server import ModelServer, Session, is_edit, refuse
 
 Request = dict[str, Any]
 Filter = Callable[[Request], bool]
@@ -86,13 +87,17 @@ class Connection:
 
     def answer(self, request: Request) -> None:
         reply = self.server.scripted(request) or self.server.model.reply(self.session, request)
-        if reply.get("code") in FAULTS and not self.server.is_lenient and not self.is_kept:
+        if reply.get("code") in FAULTS and not self.server.is_lenient and not self.is_kept and not self.is_put_out(reply, request):
             self.server.faults.append(f"{request} is {reply['code']}")
         if reply["ok"] and is_edit(request):
             self.server.made.append(request)
         if not self.is_muted:
             self.send(json.dumps(reply, ensure_ascii=False, separators=(",", ":")))
         self.server.stir()
+
+    def is_put_out(self, reply: Request, request: Request) -> bool:
+        """Whether it is refused because somebody else has ended the visit, of which the client cannot know."""
+        return reply["code"] == 310 and request["pad"] in self.session.visits
 
     def send(self, text: str) -> None:
         if not self.writer.is_closing():

@@ -4,6 +4,8 @@ import { wordsOf } from "../../clients/js/src/drafts.js";
 import { Disk } from "./memory_store.mjs";
 
 const SECOND = 1000;
+// A pad cannot be opened now, since it is crowded or closed.
+const NOT_NOW = [313, 330];
 
 export class Browsers {
   constructor({ world, deeds, dice, modules, names, prepare }) {
@@ -41,7 +43,7 @@ export class Browsers {
       if (at > this.world.clock.now()) continue;
       const isAway = note && this.dice(3) === 0;
       try { if (!(await this.open(name, pad, isAway ? note.id : undefined))) continue; } catch (error) {
-        if (error.name !== "Lost" && error.code !== 313) throw error;
+        if (error.name !== "Lost" && !NOT_NOW.includes(error.code)) throw error;
         continue;
       }
       if (isAway) this.seen.away++;
@@ -55,7 +57,7 @@ export class Browsers {
       if (!page.isAway || page.isLoggingIn || !page.session.pad || this.dice(3)) continue;
       page.isLoggingIn = true;
       page.session.logInAgain(`t${page.session.name}`).then(() => { page.isAway = false; }, (error) => {
-        if (error.name !== "Lost" && error.code !== 313) page.faults.push(error);
+        if (error.name !== "Lost" && !NOT_NOW.includes(error.code)) page.faults.push(error);
       }).then(() => { page.isLoggingIn = false; });
     }
   }

@@ -52,6 +52,7 @@ def reloaded(test):
         server.page.start()
     server.start()
     ann.click("log-in-again")
+    until(lambda: ann.get("again-token").is_displayed())
     ann.get("again-token").send_keys("wrong" + Keys.ENTER)
     check("a wrong token is told", until(lambda: "wrong" in ann.get("again-error").text), ann.get("again-error").text)
     ann.get("again-token").send_keys("t1" + Keys.ENTER)

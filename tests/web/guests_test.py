@@ -13,46 +13,23 @@ import tempfile
 
 from first_visit import CHOOSE, RIGHTS
 from page_checks import plain
-from windows import BROKEN, Keys, Line, Server, Window, play_all, units, until
+from trial import MAY_TYPE, WIDTH, Trial, narrow, shown, speak
+from windows import Keys, Line, Server, play_all, units, until
 
 TEXT = "The crane on the east quay is to be painted.\n"
 NAME, MARKED = "Ben Müller", "Ben Müller (guest)"
-# What is shown of each element, and its hint.
-SHOWN = "return [...document.querySelectorAll(arguments[0])].map((node) => [node.textContent, node.title])"
-MAY_TYPE = "return document.getElementById('text').isContentEditable"
 # Where a browser keeps addresses and what a page was loaded with.
 PLACES = "return JSON.stringify([document.URL, document.referrer, document.title, document.cookie, name, history.state, performance.getEntries().map((one) => one.name)])"
 OPTIONS = "return [...document.querySelectorAll('#rights-list tr')].map((row) => [row.firstChild.textContent, [...row.querySelectorAll('option')].map((one) => one.value).join(' '), row.querySelectorAll('button').length])"
-PHONE = {"width": 360, "height": 740, "deviceScaleFactor": 2, "mobile": True}
 KEPT = "return [Object.keys(sessionStorage), Object.keys(localStorage).filter((key) => key.includes('guest'))]"
 
 
-class Guests:
-    """A server that takes guests, an owner's window, and those of two guests. `tally` counts the checks that hold and those that do not."""
+class Guests(Trial):
+    """A server that takes guests, an owner's window, and those of two guests."""
 
     def __init__(self, server, folder, tally, downloads):
-        self.server, self.folder, self.tally, self.downloads = server, folder, tally, downloads
-        self.ann, self.ben, self.eve = (Window(server.url) for _ in range(3))
-        self.link = ""
-
-    def check(self, name, holds, seen=None):
-        self.tally[bool(holds)] += 1
-        print("ok     " if holds else "FAILED ", name, "" if holds or seen is None else repr(seen)[:600], flush=True)
-
-    def shot(self, window, name):
-        if self.folder:
-            window.shot(self.folder, name)
-
-    def end(self):
-        for window in (self.ann, self.ben, self.eve):
-            try:
-                window.quit()
-            except BROKEN:  # it is gone already
-                pass
-
-
-def shown(window, selector):
-    return window.run(SHOWN, selector)
+        super().__init__(server, folder, tally, ("ann", "ben", "eve"))
+        self.downloads, self.link = downloads, ""
 
 
 def asks(window):
@@ -170,12 +147,17 @@ def exports(test, account):
     for button, ending, wanted in (("as-markdown", ".md", f"**{MARKED}**"), ("as-html", ".html", f"{NAME} (guest, {account})")):
         ann.click("export")
         ann.click(button)
-        name = until(lambda: next((name for name in os.listdir(test.downloads) if name.endswith(ending)), None))
-        text = ""
-        if name:
-            with open(os.path.join(test.downloads, name), encoding="utf-8") as file:
-                text = file.read()
+        text = until(lambda: downloaded(test.downloads, ending)) or ""
         check(f"and the export as {ending}", wanted in text, text)
+
+
+def downloaded(folder, ending):
+    """The text of a file that was downloaded, or None as long as there is none: Chromium makes the file before it writes it."""
+    for name in os.listdir(folder):
+        if name.endswith(ending):
+            with open(os.path.join(folder, name), encoding="utf-8") as file:
+                return file.read() or None
+    return None
 
 
 def stays(test):
@@ -204,7 +186,7 @@ def several(test):
     eve.get("guest-name").clear()
     eve.get("guest-name").send_keys("ann" + Keys.ENTER)
     check("who takes the name of an account is still a guest", is_in(eve, "ann") and until(lambda: ["ann (guest)"] == [text for text, title in shown(ann, "#here li") if title.startswith("ann (guest")]), shown(ann, "#here li"))
-    ann.run("localStorage.setItem('language', 'de')")
+    speak(ann, "de")
     ann.driver.refresh()
     until(lambda: ann.get("text").is_displayed() and ann.text == TEXT)
     check("and so it is in another language", until(lambda: {"ann (Gast)", f"{NAME} (Gast)", "ann"} <= {text for text, _ in shown(ann, "#here li")}), shown(ann, "#here li"))
@@ -306,16 +288,16 @@ def wrong(test):
         check(f"a link that nobody made opens nothing: {link}", until(lambda: asks(eve) and "don't have access" in fault(eve)), fault(eve))
 
 
-def narrow(test):
+def small(test):
     """On a phone, in each language."""
     ann, eve, check = test.ann, test.eve, test.check
     for window in (ann, eve):
-        window.driver.execute_cdp_cmd("Emulation.setDeviceMetricsOverride", PHONE)
+        narrow(window)
     for language, word in (("de", "Gast"), ("fr", "invité"), ("es", "invitado"), ("en", "guest")):
         for window in (ann, eve):
-            window.run("localStorage.setItem('language', arguments[0])", language)
+            speak(window, language)
         eve.begin(test.link)
-        seen = asks(eve), eve.run("return document.documentElement.scrollWidth"), word in eve.get("guest").text.lower() or word in eve.get("guest").text
+        seen = asks(eve), eve.run(WIDTH), word in eve.get("guest").text.lower() or word in eve.get("guest").text
         check(f"in 360 pixels the form for guests fits, in {language}", seen == (True, 360, True), seen)
         ann.driver.refresh()
         until(lambda: ann.get("text").is_displayed())
@@ -329,7 +311,7 @@ def narrow(test):
         test.shot(ann, f"invite-{language}")
         ann.keys(Keys.ESCAPE)
     for window in (ann, eve):
-        window.driver.execute_cdp_cmd("Emulation.clearDeviceMetricsOverride", {})
+        narrow(window, False)
 
 
 def without(test, program):
@@ -363,7 +345,7 @@ def play(program, folder, tally):
         test = None
         try:
             test = Guests(server, folder, tally, downloads)
-            for part in (invites, comes, comments, stays, several, writes, away, revoked, logs_out, wrong, narrow):
+            for part in (invites, comes, comments, stays, several, writes, away, revoked, logs_out, wrong, small):
                 part(test)
             without(test, program)
         finally:

@@ -139,6 +139,7 @@ class Killed:
             return
         self.start_server()
         window.click("log-in-again")
+        until(lambda: window.get("again-token").is_displayed())
         window.get("again-token").send_keys("t1")
         window.click("again-go")
         if not window.is_saved(30):

@@ -3,16 +3,18 @@ import { ModelPad } from "./model.mjs";
 
 const RIGHTS = ["none", "read", "comment", "write", "own"];
 const EDITS = ["insert", "delete", "edit"];
-const NEEDS = { insert: "write", delete: "write", edit: "write", comment: "comment", resolve: "comment", grant: "own", hand: "own", join: "read" };
+const NEEDS = { insert: "write", delete: "write", edit: "write", comment: "comment", resolve: "comment", grant: "own", hand: "own", close: "own", reopen: "own", join: "read" };
+// What nobody may do on a pad that is closed.
+const CHANGES = [...EDITS, "comment", "resolve", "grant", "hand"];
 const REFUSALS = {
   101: "NotJson", 200: "NoSession", 201: "BadToken", 300: "NoPad", 301: "PadExists", 310: "NotJoined", 311: "Joined", 312: "Denied",
-  313: "Crowded", 329: "NoVisit", 320: "NoRevision", 321: "OutOfRange", 322: "Empty", 323: "TooMuch",
+  313: "Crowded", 329: "NoVisit", 330: "PadClosed", 320: "NoRevision", 321: "OutOfRange", 322: "Empty", 323: "TooMuch",
 };
 const refuse = (code) => ({ ok: false, code, error: REFUSALS[code] });
 
 class Room {
   // `given` has of each visit, present or not, whose it is, how many operations it made, and the name of the last one.
-  constructor(owner) { Object.assign(this, { pad: new ModelPad(), given: [], present: new Map(), rights: new Map([[owner, "own"]]) }); }
+  constructor(owner) { Object.assign(this, { pad: new ModelPad(), given: [], present: new Map(), rights: new Map([[owner, "own"]]), isClosed: false }); }
 }
 
 export class ModelServer {
@@ -57,6 +59,7 @@ export class ModelServer {
     if (request.do === "join") return this.join(session, request, room);
     if (!this.isIn(session, name)) return refuse(310);
     if (!this.may(session, room, NEEDS[request.do] ?? "read")) return refuse(312);
+    if (room.isClosed && CHANGES.includes(request.do)) return refuse(330);
     return this.answer(session, room, request);
   }
 
@@ -71,7 +74,7 @@ export class ModelServer {
   rightOf(name, { rights }) { return RIGHTS[Math.max(...[name, "*"].map((one) => RIGHTS.indexOf(rights.get(one) ?? "none")))]; }
   padsOf(session) {
     const readable = [...this.rooms].filter(([, room]) => this.may(session, room, "read"));
-    return readable.map(([name, room]) => [name, this.rightOf(session.name, room), room.pad.now]);
+    return readable.map(([name, room]) => [name, this.rightOf(session.name, room), room.pad.now, ...(room.isClosed ? ["closed"] : [])]);
   }
 
   create(session, name) {
@@ -85,6 +88,7 @@ export class ModelServer {
   join(session, { pad: name, instead }, room) {
     if (session.visits.has(name)) return refuse(this.isIn(session, name) ? 311 : 310);
     if (!this.may(session, room, "read")) return refuse(312);
+    if (room.isClosed && !this.may(session, room, "own")) return refuse(330);
     const isAgain = instead !== undefined && !this.isOld, old = isAgain ? room.given[instead - 1] : null;
     if (isAgain && old?.author !== session.name) return refuse(329);
     if (room.present.size - (old && room.present.has(instead) ? 1 : 0) >= this.present) return refuse(313);
@@ -103,7 +107,10 @@ export class ModelServer {
         room.present.delete(visit);
         return { ok: true, now };
       case "who": return { ok: true, now, who: this.who(room) };
-      case "rights": return { ok: true, now, rights: [...room.rights] };
+      case "rights": return { ok: true, now, rights: [...room.rights], ...(room.isClosed ? { closed: true } : {}) };
+      case "close": case "reopen":
+        this.close(room, request.do === "close");
+        return { ok: true, now };
       case "grant":
         room.rights.set(request.author, request.right);
         return { ok: true, now };
@@ -115,6 +122,13 @@ export class ModelServer {
       return { ok: true, now };
     }
     return this.refusal(request) ?? this.noted(room.given[visit - 1], pad.reply(this.authorOf(session), request));
+  }
+
+  // Who may not own a pad that is closed is put out: the visit ends, and the session knows nothing of it.
+  close(room, isClosed) {
+    room.isClosed = isClosed;
+    if (!isClosed) return;
+    for (const [visit, { author }] of room.present) if (!this.may({ name: author.split("@")[0] }, room, "own")) room.present.delete(visit);
   }
 
   // An answer with a name is that of an operation.

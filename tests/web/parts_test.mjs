@@ -12,7 +12,7 @@ import { apply, applyRuns, compose, invert, move, snapped, splice, split, transf
 import { toMarkdown } from "../../web/exports.js";
 import { isGuest, isLink, newSecret } from "../../clients/js/src/guests.js";
 import { History, merged } from "../../clients/js/src/history.js";
-import { letterOf } from "../../web/keys.js";
+import { letterOf } from "../../web/input.js";
 import { authorsIn, rightOf } from "../../clients/js/src/rights.js";
 import { Undo } from "../../clients/js/src/undo.js";
 import { count, deltaOf, partsOf, unit } from "../../clients/js/src/units.js";
@@ -328,7 +328,7 @@ async function guestsAsked() {
 }
 
 // What workers load, and what a page loads only if it needs it.
-const LATER = /^(sw\.js|vendor\/.*|languages\/.*|minutes\/(rules|worker)\.js|(characters|go_on|guest_door|keys_list|named_revisions|pad_search|rights|who_wrote)\.js|clients\/js\/src\/(go_on|history)\.js)$/;
+const LATER = /^(sw\.js|vendor\/.*|languages\/.*|minutes\/(rules|worker)\.js|(characters|closing|find_bar|finding|go_on|guest_door|keys_list|log_in_again|named_revisions|pad_search|rights|who_wrote)\.js|clients\/js\/src\/(go_on|history)\.js)$/;
 
 function modules() {
   const html = fs.readFileSync(path.join(WEB, "index.html"), "utf8");

@@ -82,6 +82,15 @@ def pages_whose_connections_break_make_each_character_once(seconds=6):
     script(NODE, "server_test.mjs", f"ws://{WebServer(stderr=subprocess.DEVNULL).host}/socket", seconds)
 
 
+def pads_are_closed_and_opened_again():
+    script(NODE, "closed_test.mjs", f"ws://{WebServer(stderr=subprocess.DEVNULL).host}/socket")
+    script(NODE, "closed_test.mjs", Server(stderr=subprocess.DEVNULL).port)
+
+
+def pages_agree_while_pads_are_closed(rounds=12):
+    script(NODE, "storm_closing.mjs", rounds)
+
+
 def the_same_over_tcp(seconds=6):
     script(NODE, "server_test.mjs", Server(stderr=subprocess.DEVNULL).port, seconds)
 
@@ -108,6 +117,10 @@ def two_windows_of_a_browser():
 
 def guests_come_by_a_link():
     script(PYTHON, "guests_test.py", path_of("pad_server"))
+
+
+def owners_close_pads_and_open_them_again():
+    script(PYTHON, "closing_test.py", path_of("pad_server"))
 
 
 def compositions_at_random(rounds=100):
@@ -139,11 +152,14 @@ TESTS = [
     named(what_is_typed_outlives_the_page, 60),
     named(pages_agree_with_a_model_over_a_bad_network, 300),
     named(pages_whose_connections_break_make_each_character_once, 150),
+    named(pads_are_closed_and_opened_again, 120),
+    named(pages_agree_while_pads_are_closed, 400),
     named(another_client_library_speaks_with_the_socket, 60),
     named(forty_pages_type_beside_a_peer, 180),
     named(two_windows_of_a_browser, 1_200),
     named(two_windows_of_firefox, 200),
     named(guests_come_by_a_link, 400),
+    named(owners_close_pads_and_open_them_again, 400),
     named(a_browser_is_killed_while_its_author_types, 300, alone=True),
 ]
 

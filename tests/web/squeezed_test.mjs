@@ -12,8 +12,9 @@ import { fileURLToPath } from "node:url";
 const TOP = path.join(path.dirname(fileURLToPath(import.meta.url)), "..", ".."), MOST = 256_000;
 const { parse } = createRequire(import.meta.url)("internal/deps/acorn/acorn/dist/acorn");
 // What a first visit does not load: other languages, the service worker's own file, and what is needed for minutes, for who wrote a
-// character, for the history, for a search in all texts, for rights, for guests, for the list of keys, and where a full pad goes on.
-const LATER = /^\/(languages\/(?!en)|sw\.js|vendor\/|minutes\/(rules|worker)|(characters|who_wrote|named_revisions|pad_search|rights|guest_door|keys_list|go_on|clients\/js\/src\/(go_on|history))\.js|files\.txt|unproved\.txt)/;
+// character, for the history, to find words in one text or in all, for rights, for closed pads, for guests, for the list of keys, to log in
+// again, and where a full pad goes on.
+const LATER = /^\/(languages\/(?!en)|sw\.js|vendor\/|minutes\/(rules|worker)|(characters|who_wrote|named_revisions|pad_search|find_bar|finding|rights|closing|guest_door|keys_list|log_in_again|go_on|clients\/js\/src\/(go_on|history))\.js|files\.txt|unproved\.txt)/;
 let passed = 0, failed = 0;
 
 function tell(name, seen, wanted) {

@@ -56,7 +56,7 @@ const MISTAKES = [
   ["two pads that are open at once", null, "session.js", "this.lastEntry.then(() => this.enterAs(entry, how, name))",
     "this.enterAs(entry, how, name)", "if (entry !== this.entries) throw new Superseded(name);", ""],
   ["a pad that is not left", null, "session.js", "if (this.pad) await this.leave();", ""],
-  ["a crowded pad that ends a page", null, "connection.js", "CROWDED].includes(error.reply?.code)", "].includes(error.reply?.code)"],
+  ["a crowded pad that ends a page", null, "connection.js", "CROWDED, NOT_JOINED].includes(error.reply?.code)", "NOT_JOINED].includes(error.reply?.code)"],
   ["a store of another past that is not noticed", "restored", "resume.js", "  await compare(pad);\n", ""],
   ["an unsent comment that does not move", null, "comments.js", "for (const comment of this.all) moveStretch", "for (const comment of this.list) moveStretch"],
   ["a comment that is sent again without a look", null, "unsent.js", "if (comment.sent && (await this.wasMade(comment, turn))) return true;", ""],

@@ -1,13 +1,17 @@
 // An author's connection: logs in, and connects again when the connection is lost. What uses it says what to do then.
 import { clock as realClock, pause } from "./clock.js";
-import { Lost, Refused } from "./errors.js";
+import { Lost, PadClosed, Refused, refused } from "./errors.js";
 import { Wire } from "./wire.js";
 
-const FIRST_PAUSE = 300, LAST_PAUSE = 5000;
+// Milliseconds between two attempts, at first, at most, and to join a pad that is closed; and how long another connection is waited for.
+const FIRST_PAUSE = 300, LAST_PAUSE = 5000, CLOSED_PAUSE = 30000, LONGEST = 10000, LOOK = 20;
 // Refusals that pass: out of memory, a full disk, too many clients. When a pad is joined again, also that it is crowded: the
 // visits of connections that broke may still be counted.
 export const PASSING = [900, 901, 902];
 const CROWDED = 313, HAVE_SESSION = 202;
+// There is no visit. Where somebody else has ended it, by closing the pad, this connection can never join that pad again; another one
+// can, once the pad is open.
+export const NOT_JOINED = 310;
 
 const NOTHING = () => {}, NOBODY = async () => null;
 
@@ -29,7 +33,7 @@ export class Connection {
 
   async call(request) {
     const reply = await this.ask(request);
-    if (!reply.ok) throw new Refused(reply);
+    if (!reply.ok) throw refused(reply);
     return reply;
   }
 
@@ -78,8 +82,17 @@ export class Connection {
   hangUp() {
     this.login = null;
     this.stop();
+    this.hurry();
     this.wire?.close();
     this.wire = null;
+  }
+
+  // Ends the connection for another one, and waits for that.
+  async renew() {
+    const { clock } = this, end = clock.now() + LONGEST;
+    this.wire?.drop();
+    this.hurry();
+    while (this.isLost && this.login && clock.now() < end) await pause(LOOK, clock);
   }
 
   down() {
@@ -90,11 +103,19 @@ export class Connection {
     this.reconnect();
   }
 
+  rest(milliseconds) {
+    return new Promise((done) => {
+      const timer = this.clock.after(milliseconds, done);
+      this.hurry = () => { this.clock.cancel(timer); done(); };
+    });
+  }
+
   // Tries again until it works, with growing pauses. `hurry` ends a pause, or an attempt to connect that hangs.
   async reconnect() {
-    for (let wait = FIRST_PAUSE, isHurried = false; this.login; wait = Math.min(wait * 1.7, LAST_PAUSE)) {
-      const hurried = new Promise((done) => { this.hurry = done; });
-      if (!isHurried) await Promise.race([pause(wait * (0.8 + 0.4 * this.random()), this.clock), hurried]);
+    const { login } = this;
+    for (let wait = FIRST_PAUSE, isHurried = false; this.login === login; ) {
+      if (!isHurried) await this.rest(wait * (0.8 + 0.4 * this.random()));
+      if (this.login !== login) return;
       isHurried = false;
       this.hurry = () => {
         isHurried = !this.wire?.isUp;
@@ -109,7 +130,8 @@ export class Connection {
         return;
       } catch (error) {
         this.wire?.close();
-        if (error instanceof Lost || [...PASSING, CROWDED].includes(error.reply?.code)) continue;
+        wait = error instanceof PadClosed ? CLOSED_PAUSE : Math.min(wait * 1.7, LAST_PAUSE);
+        if ([Lost, PadClosed].some((kind) => error instanceof kind) || [...PASSING, CROWDED, NOT_JOINED].includes(error.reply?.code)) continue;
         this.endWith(error);
         return;
       }

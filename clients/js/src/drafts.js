@@ -15,6 +15,7 @@
 // and `newId()`. What is put may be read later, and is never changed.
 import { clock as realClock, pause } from "./clock.js";
 import { apply, applyRuns, compose, isEmpty } from "./delta.js";
+import { NOT_JOINED } from "./connection.js";
 import { Lost, LostRevisions, Misfit, Refused, Taken } from "./errors.js";
 import { Pad } from "./sync.js";
 import { UnsentComments } from "./unsent.js";
@@ -228,7 +229,8 @@ class Other {
     this.draft.pad = this.pad;
   }
 
-  // Resolves to the words that could not be sent; to null if the connection was lost, or the pad left, before all was sent.
+  // Resolves to the words that could not be sent; to null if the connection or the visit has ended, or the pad was left, before all
+  // was sent.
   async send(visit, goesOn) {
     const { pad, unsent, note, said, session: { me, clock } } = this;
     try {
@@ -238,7 +240,7 @@ class Other {
       while ((pad.isUnsent || unsent.list.length) && goesOn()) await Promise.race([pause(LOOK, clock), ...runs]);
       return goesOn() ? [...note.kept, ...said] : null;
     } catch (error) {
-      if (![Refused, Misfit, LostRevisions].some((kind) => error instanceof kind)) return null;
+      if (error.reply?.code === NOT_JOINED || ![Refused, Misfit, LostRevisions].some((kind) => error instanceof kind)) return null;
       return [pad.unsentWords, ...unsent.giveUp(), ...note.kept, ...said].filter((words) => words.trim());
     } finally {
       pad.stop();

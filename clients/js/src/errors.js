@@ -12,6 +12,12 @@ export class Refused extends PadError {
   get code() { return this.reply.code; }
 }
 
+// The pad is closed: nobody can change it, and only who may own it can join it.
+export class PadClosed extends Refused {}
+const CLOSED = 330;
+
+export const refused = (reply) => new (reply.code === CLOSED ? PadClosed : Refused)(reply);
+
 // There is no connection, or it ended before the answer. `reply` is a refusal that nobody had asked for, such as 902, or null.
 // `cause` is what the system said, where it says something.
 export class Lost extends PadError {

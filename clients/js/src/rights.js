@@ -6,9 +6,9 @@ const RIGHTS = ["none", "read", "comment", "write", "own"];
 // Who stands in a list of rights for all authors.
 export const EVERYONE = "*";
 
-// The list of rights, or an empty one for who has lost them all.
+// The list of rights, or an empty one for who has lost them all; and whether the pad is `closed`.
 export async function rightsOn(pad) {
-  try { return (await pad.call({ do: "rights" })).rights; } catch (error) { if (error.reply?.code === 312) return []; throw error; }
+  try { return await pad.call({ do: "rights" }); } catch (error) { if (error.reply?.code === 312) return { rights: [] }; throw error; }
 }
 
 // An author's right: the greater of the author's own and that of everyone, or for a guest, that of the guest's link.

@@ -1,9 +1,9 @@
 // An author's session: keeps one pad open, over lost connections too. Without a display, it tells those who listen (`on`).
 import { pause } from "./clock.js";
 import { Comments } from "./comments.js";
-import { Connection, PASSING } from "./connection.js";
+import { Connection, NOT_JOINED, PASSING } from "./connection.js";
 import { Drafts, adopt } from "./drafts.js";
-import { Lost, LostRevisions, Misfit, Refused, Superseded, Unsaved } from "./errors.js";
+import { Lost, LostRevisions, Misfit, PadClosed, Refused, Superseded, Unsaved } from "./errors.js";
 import { Events } from "./events.js";
 import { isGuest, newSecret } from "./guests.js";
 import { KeptWords } from "./kept.js";
@@ -14,13 +14,14 @@ import { Pulse } from "./pulse.js";
 import { rightOf, rightsOn } from "./rights.js";
 import { PACE, Pad } from "./sync.js";
 import { UnsentComments } from "./unsent.js";
+import { joinFirst, joinInstead } from "./visits.js";
 
 // How long what is not sent yet may take before a pad is left.
 const SETTLE = 5000, LOOK = 20;
 // Refusals that no edit gets if the server has the page's text: no such revision, and a place behind its end.
 const UNFIT = [320, 321];
-// The server does not know the old visit.
-const NO_VISIT = 329;
+// Refusals that tell of something new: the right is another one, or the pad is closed.
+const NEWS = [312, 330];
 
 const NOTHING = () => {};
 // What a session tells, with what it gives.
@@ -29,7 +30,7 @@ const EVENTS = [
   "receive", // a delta: others have changed it, or words of the author were taken back
   "revision", // { from, to, isOwn }: `pad.rev` has moved
   "state", // `state` may be another one
-  "presence", "comments", "rights", // what is there under these names has changed
+  "presence", "comments", "rights", // what is there under these names has changed; `isClosed` with the rights
   "come", "go", // an author: another one has come to the pad, or gone
   "refused", // a reply and words: the server does not take these, and they are in `kept`
   "returned", // words that an earlier page had not sent cannot be sent, and are in `kept`
@@ -48,14 +49,16 @@ export class Session extends Connection {
     // How many pads were asked for, how many of these are being opened, and the end of the last one's entry.
     this.entries = 0; this.entering = 0; this.lastEntry = Promise.resolve();
     this.right = "none"; this.rights = []; this.cells = 0; this.isHidden = false; this.keptAt = 0;
+    // Whether the pad is closed, and whether the author was put out by that.
+    this.isClosed = false; this.isShut = false;
     // What holds words up at the moment, and what the server did not take since `saved` was asked.
     this.heldBy = null; this.refusal = null;
   }
 
   get name() { return this.me.split("@")[0]; }
   get isGuest() { return isGuest(this.name); }
-  get mayWrite() { return this.right === "write" || this.right === "own"; }
-  get mayComment() { return this.mayWrite || this.right === "comment"; }
+  get mayWrite() { return !this.isClosed && (this.right === "write" || this.right === "own"); }
+  get mayComment() { return this.mayWrite || (!this.isClosed && this.right === "comment"); }
 
   // Whether the pad was opened without a log-in, as it was kept at `keptAt`.
   get isAway() { return this.pad !== null && this.login === null && !this.isOver; }
@@ -63,7 +66,7 @@ export class Session extends Connection {
   // How the pad is: "saved" is said only when everything is sent and answered.
   get state() {
     if (this.isOver) return "over";
-    if (this.isLost) return "lost";
+    if (this.isLost) return this.isShut ? "closed" : "lost";
     if (this.heldBy) return "held";
     return this.isUnsent ? "saving" : "saved";
   }
@@ -102,20 +105,32 @@ export class Session extends Connection {
     this.pulse?.stop();
     this.tell("over", error.reply?.code === 300 ? new LostRevisions() : error);
   }
-  async goOn() { if (this.pad) await this.rejoin(this.pad); }
+  async goOn() {
+    const { pad } = this;
+    try { if (pad) await this.rejoin(pad); } catch (error) {
+      if (pad !== this.pad && error instanceof Refused) return this.goOn(); // it was left meanwhile
+      if (error instanceof PadClosed) this.shut();
+      throw error;
+    }
+    this.isShut = false;
+  }
+
+  // The pad was closed by an owner, and that has ended the visit. Other connections ask now and then whether it is open again.
+  shut() {
+    Object.assign(this, { isShut: true, isClosed: true });
+    this.wire?.drop();
+    this.tell("rights");
+    this.tell("state");
+  }
+
+  // A visit that has ended does not end the session.
+  endWith(error) { if (error.reply?.code === NOT_JOINED && !this.isLost) this.shut(); else super.endWith(error); }
 
   // Joins instead of the old visit, so that nothing more comes of that one. A server that does not know it, or is of an earlier
   // version, does not tell whether it has made more than was answered.
   async rejoin(pad) {
-    const { name, visit: instead, lastMade } = pad, told = await this.joinInstead(name, instead);
+    const { lastMade } = pad, told = await joinInstead(this, pad);
     await this.resume(pad, told.visit, told.made === undefined ? null : `${told.last}` !== `${lastMade}`);
-  }
-
-  async joinInstead(pad, instead) {
-    try { return await this.call({ do: "join", pad, instead }); } catch (error) {
-      if (error.reply?.code !== NO_VISIT) throw error;
-      return this.call({ do: "join", pad });
-    }
   }
 
   // Remembers the last operation that was answered in the visit.
@@ -154,7 +169,9 @@ export class Session extends Connection {
 
   // ---- pads
 
-  async pads() { return (await this.call({ do: "pads" })).pads.map(([name, right, now]) => ({ name, right, now })); }
+  async pads() {
+    return (await this.call({ do: "pads" })).pads.map(([name, right, now, closed]) => ({ name, right, now, isClosed: closed !== undefined }));
+  }
   // Those of these authors of the server, 1 to 100, who have a display name.
   async people(authors) { return (await this.call({ do: "people", authors })).people; }
   create(name) { return this.enter("create", name); }
@@ -172,11 +189,11 @@ export class Session extends Connection {
   async enterAs(entry, how, name) {
     const goOn = () => { if (entry !== this.entries) throw new Superseded(name); };
     goOn();
-    if (this.isLost) throw new Lost("not connected");
+    if (this.isLost && !this.isShut) throw new Lost("not connected");
     if (this.pad && !(await this.settle())) throw new Unsaved(this.pad.name);
     if (this.pad) await this.leave();
     goOn();
-    const { visit } = await this.call({ do: how, pad: name }), { wire } = this, pad = this.padOf(name, visit);
+    const visit = await joinFirst(this, how, name), { wire } = this, pad = this.padOf(name, visit);
     const others = await this.drafts.take(name), note = others.pop();
     try {
       goOn();
@@ -226,7 +243,7 @@ export class Session extends Connection {
     this.comments = new Comments(pad, unsent, whenOpen(() => this.tell("comments")));
     this.kept.leave();
     this.caret.forget();
-    Object.assign(this, { pad, right: note?.right ?? "none", rights: [], cells: 0, heldBy: null, refusal: null, keptAt: note?.time ?? 0 });
+    Object.assign(this, { pad, right: note?.right ?? "none", rights: [], cells: 0, isClosed: false, heldBy: null, refusal: null, keptAt: note?.time ?? 0 });
     this.kept.addMissing(note?.kept ?? []);
     for (const { from, to, text, sent } of note?.comments ?? []) unsent.add(from, to, text, sent);
     this.drafts.follow(pad, note, others);
@@ -280,9 +297,9 @@ export class Session extends Connection {
     if (!pad) return;
     this.stop();
     this.pulse.stop();
-    this.pad = null;
-    this.heldBy = null;
+    Object.assign(this, { pad: null, heldBy: null, isClosed: false });
     await this.drafts.leave(isLost);
+    if (this.isShut) await this.renew(); // without the pad, nothing is in the way
     try { await this.call({ do: "leave", pad: pad.name }); } catch { /* the visit ends with the connection at the latest */ }
   }
 
@@ -297,6 +314,7 @@ export class Session extends Connection {
         return;
       } catch (error) {
         if (error instanceof Lost || pad !== this.pad || wire !== this.wire) return;
+        if (error.reply?.code === NOT_JOINED) { this.shut(); return; }
         if (error instanceof Misfit || UNFIT.includes(error.reply?.code)) this.doubt(pad);
         else if (error instanceof Refused) this.refused(pad, error.reply);
         else { this.endWith(error); return; }
@@ -331,7 +349,7 @@ export class Session extends Connection {
       for (const { at, words } of pieces) this.kept.add(words, at);
       this.tell("refused", reply, pieces.map(({ words }) => words).join("\n"));
     }
-    if (reply.code === 312) this.readRights().catch(NOTHING);
+    if (NEWS.includes(reply.code)) this.readRights().catch(NOTHING);
     this.tell("state");
   }
 
@@ -364,14 +382,16 @@ export class Session extends Connection {
   }
 
   async readRights() {
-    const { pad } = this, rights = await rightsOn(pad);
+    const { pad } = this, { rights, closed: isClosed = false } = await rightsOn(pad);
     if (pad !== this.pad) return;
-    Object.assign(this, { rights, right: rightOf(this.name, rights) });
+    Object.assign(this, { rights, right: rightOf(this.name, rights), isClosed });
     this.tell("rights");
   }
 
   grant(author, right) { return this.changeRights({ do: "grant", author, right }); }
   hand(author) { return this.changeRights({ do: "hand", author }); }
+  close() { return this.changeRights({ do: "close" }); }
+  reopen() { return this.changeRights({ do: "reopen" }); }
   async changeRights(request) {
     await this.call({ ...request, pad: this.pad.name });
     await this.readRights();
@@ -410,8 +430,9 @@ export class Session extends Connection {
 
   // Tells whether the comment is to be tried again. Otherwise its text is kept for the author.
   refusedComment(reply, text) {
-    const isPassing = PASSING.includes(reply.code);
-    if (isPassing) this.heldBy = reply;
+    const isEnded = reply.code === NOT_JOINED, isPassing = isEnded || PASSING.includes(reply.code);
+    if (isEnded) this.shut();
+    else if (isPassing) this.heldBy = reply;
     else {
       this.refusal = reply;
       this.kept.add(text);

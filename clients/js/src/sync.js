@@ -17,7 +17,7 @@
 // Everything in `pending` is typed under one name, `me`, which may be another one after a reconnection.
 import { apply, applyRuns, authored, compose, isEmpty, move, restoring, snapped, splice, split, transform, typed } from "./delta.js";
 import { clock as realClock, pause } from "./clock.js";
-import { Lost, Refused } from "./errors.js";
+import { Lost, Refused, refused } from "./errors.js";
 import { LIMITS } from "./limits.js";
 import { entryOf, resume } from "./resume.js";
 import { Undo } from "./undo.js";
@@ -55,7 +55,7 @@ export class Pad {
 
   async call(request) {
     const reply = await this.ask({ ...request, pad: this.name });
-    if (!reply.ok) throw new Refused(reply);
+    if (!reply.ok) throw refused(reply);
     this.now = Math.max(this.now, reply.now);
     return reply;
   }

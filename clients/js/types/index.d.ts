@@ -83,9 +83,10 @@ export const PACE: Pace;
 /**
  * `saved`: the server has everything. `saving`: something is not sent or not answered. `held`: the server takes nothing at
  * the moment (`heldBy`). `lost`: there is no connection; what is typed is kept, and sent when there is one again.
- * `over`: the session has ended.
+ * `closed`: an owner has closed the pad, which has put the author out. What is typed and not sent is kept, and sent once the pad is open
+ * again: the session asks every half minute, over another connection, and `hurry` asks at once. `over`: the session has ended.
  */
-export type State = "saved" | "saving" | "held" | "lost" | "over";
+export type State = "saved" | "saving" | "held" | "lost" | "closed" | "over";
 
 /** What `session.on` tells of, by the listeners. */
 export interface Listeners {
@@ -97,7 +98,7 @@ export interface Listeners {
   revision: (step: { from: number; to: number; isOwn: boolean }) => void;
   /** `state` may be another one. */
   state: () => void;
-  /** `presence`, `comments`, or `right` and `rights` are others. */
+  /** `presence`, `comments`, or `right`, `rights` and `isClosed` are others. */
   presence: () => void;
   comments: () => void;
   rights: () => void;
@@ -138,6 +139,9 @@ export class Session {
   readonly right: Right;
   /** Who has which right. The owner is the first; `*` is everyone. */
   readonly rights: [author: string, right: Right][];
+  /** Whether the pad is closed: nobody can change it then, and only who may own it can join it. */
+  readonly isClosed: boolean;
+  /** Whether the author has the right to, and the pad is not closed. */
   readonly mayWrite: boolean;
   readonly mayComment: boolean;
   /** Why the server takes nothing at the moment. */
@@ -163,12 +167,12 @@ export class Session {
   on<Event extends keyof Listeners>(event: Event, listener: Listeners[Event]): () => void;
 
   /** The pads that the author may read. */
-  pads(): Promise<{ name: string; right: Right; now: number }[]>;
+  pads(): Promise<{ name: string; right: Right; now: number; isClosed: boolean }[]>;
   /** Those of these authors of the server, 1 to 100, who have a display name. */
   people(authors: string[]): Promise<{ author: string; name: string }[]>;
   /**
    * Opens a pad; the one before is saved and left first. Fails with `Refused` (300 no such pad, 301 there is one, 303 no
-   * valid name, 312 no right), `Unsaved` if the one before cannot be saved, and `Superseded` if another one was asked for.
+   * valid name, 312 no right), `PadClosed`, `Unsaved` if the one before cannot be saved, and `Superseded` if another one was asked for.
    */
   join(pad: string): Promise<Pad>;
   create(pad: string): Promise<Pad>;
@@ -179,7 +183,7 @@ export class Session {
    * refused something since `saved` was last asked, or if the session ends before; `cause` says why.
    */
   saved(): Promise<void>;
-  /** Ends a pause between two attempts to connect. */
+  /** Ends a pause between two attempts to connect, or to come back to a pad that was closed. */
   hurry(): void;
 
   /** Comments on what is shown between two places. Resolves to the comment's name once it is made. */
@@ -191,6 +195,10 @@ export class Session {
   grant(author: string, right: Right): Promise<void>;
   /** Hands the pad over to an author; the owner before may still write. Fails with `Refused`. */
   hand(author: string): Promise<void>;
+  /** Closes the pad: nobody can change it any more, and who may not own it is put out. Fails with `Refused`, 102 by an older server. */
+  close(): Promise<void>;
+  /** Opens a pad again that was closed. */
+  reopen(): Promise<void>;
   /** Makes a link by which guests come to the pad with a right. Resolves to its secret, which the server does not keep. */
   invite(right: LinkRight): Promise<string>;
   /** A guest is called by this name on the pad, 1 to 60 characters. Who is no guest is refused with 312. */
@@ -324,6 +332,8 @@ export interface Comparison {
 
 /** The server refused a request. */
 export class Refused extends Error { constructor(reply: Refusal); readonly reply: Refusal; readonly code: number }
+/** The pad is closed (330). */
+export class PadClosed extends Refused {}
 /** There is no connection, or it ended before the answer. `reply`: what the server said before it ended it, such as 902. */
 export class Lost extends Error { readonly reply: Refusal | null; readonly cause?: Error }
 /** The server has another past: its store was restored from an older copy. */

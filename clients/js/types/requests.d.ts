@@ -43,11 +43,15 @@ export interface PadRequests {
   /** The author `*` is everyone. */
   grant: On<{ author: string; right: Right }, None>;
   hand: On<{ author: string }, None>;
+  /** Closes the pad, and opens it again. */
+  close: On<None, None>;
+  reopen: On<None, None>;
   /** Names a revision. */
   mark: On<Rev & { text: string }, None>;
   /** The named revisions; `at` is when, in milliseconds since 1970. */
   marks: On<None, { marks: { at: number; author: string; rev: number; text: string }[] }>;
-  rights: On<None, { rights: [author: string, right: Right][] }>;
+  /** `closed` is there where the pad is closed. */
+  rights: On<None, { rights: [author: string, right: Right][]; closed?: true }>;
   /** Makes a link for guests, by its secret. */
   invite: On<{ secret: string; right: LinkRight }, None>;
   /** A guest is called by this name. */
@@ -62,7 +66,7 @@ export interface Requests extends WithPad {
   hello: Request<{ name: string; token: string }, { author: string }>;
   /** The secret of a link and one of the guest's own, with a point between them. */
   guest: Request<{ token: string }, { author: string }>;
-  pads: Request<None, { pads: [name: string, right: Right, now: number][] }>;
+  pads: Request<None, { pads: [name: string, right: Right, now: number, closed?: "closed"][] }>;
   create: On<{ pad: string }, { visit: number }>;
   join: On<{ pad: string }, { visit: number }>;
 }

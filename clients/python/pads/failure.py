@@ -28,9 +28,10 @@ class Failure(Exception):
 _REFUSALS = {
     201: "the name or the token is wrong", 300: "there is no such pad", 301: "there is a pad of this name already",
     302: "the server has no room for one more pad", 303: "a pad's or an author's name is 1 to 32 of a-z, 0-9 and -",
-    312: "you do not have the right to", 313: "too many are on the pad at the moment", 315: "the right of who made a pad stays",
+    310: "your visit to the pad was ended, as it is when the pad is closed", 312: "you do not have the right to", 313: "too many are on the pad at the moment", 315: "the right of who made a pad stays",
     320: "there is no such revision", 322: "nothing is not enough: a text or a count is empty", 323: "that is too much at once",
     324: "the pad is full", 326: "there is no such comment", 327: "the pad is full", 328: "the pad takes no more comments",
+    330: "the pad is closed",
     900: "the server is out of memory at the moment", 901: "the server's disk is full", 902: "the server is full at the moment",
 }
 

@@ -18,9 +18,13 @@ async def follow(session: Session, asked: argparse.Namespace) -> None:
     history, colours = History(pad), Colours(asked.color)
     if not asked.json:
         print(f"Following {pad.name}, at revision {pad.rev}.", file=sys.stderr)
+    was_closed = False
     async for event in session.events(Event):
         if isinstance(event, Ended):
             raise event.error
+        if was_closed != (session.state == "closed"):
+            was_closed = not was_closed
+            print("The pad is closed." if was_closed else "The pad is open again.", file=sys.stderr, flush=True)
         if isinstance(event, Moved):
             await _print(history, event.start, event.to, asked.json, colours)
 

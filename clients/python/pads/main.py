@@ -9,7 +9,7 @@ from collections.abc import Awaitable, Callable
 
 from vindrughe import PadError, Session
 
-from . import completion, edit, follow, import_file, names, options, reading, settings, writing
+from . import closing, completion, edit, follow, import_file, names, options, reading, settings, writing
 from .failure import Failure, Status, failure_of
 from .opening import connected_by
 
@@ -17,7 +17,7 @@ from .opening import connected_by
 _COMMANDS: dict[str, Callable[[Session, argparse.Namespace], Awaitable[None]]] = {
     "list": reading.list_pads, "show": reading.show, "export": reading.export, "history": reading.history, "diff": reading.diff,
     "follow": follow.follow, "create": writing.create, "append": writing.append, "comment": writing.comment, "grant": writing.grant,
-    "hand": writing.hand, "mark": names.mark, "marks": names.marks,
+    "hand": writing.hand, "close": closing.close, "reopen": closing.reopen, "mark": names.mark, "marks": names.marks,
 }
 
 

@@ -75,7 +75,7 @@ class Command:
 
 
 COMMANDS = [
-    Command("list", "Lists the pads that you may read", (JSON,)),
+    Command("list", "Lists the pads that you may read", (JSON,), "Each has its name, your right on it and its newest revision, and the word closed where it is closed."),
     Command("show", "Prints a pad", (PAD, REV, AT, word("--authors", action="store_true", help="Colours each author's words, or names their authors"), COLOUR, JSON)),
     Command(
         "follow", "Prints what comes, in colours by author, until it is interrupted", (PAD, COLOUR, JSON),
@@ -142,6 +142,11 @@ COMMANDS = [
         ),
     ),
     Command("hand", "Hands a pad over: another author owns it, and you may still write", (PAD, word("author", metavar="AUTHOR", help="Who owns it from then on"))),
+    Command(
+        "close", "Closes a pad: nobody changes it any more, and only its owners may read it", (PAD,),
+        "Everybody else has to leave it at once. It stays in the list, with the word closed, and its name stays taken. Only who owns it can close it.",
+    ),
+    Command("reopen", "Opens a pad again that was closed", (PAD,), "Everybody has the right again that they had."),
     Command(
         "log-in", "Asks for your token, tries it, and keeps it in ~/.config/vindrughe", (
             word("address", metavar="ADDRESS", help="tcp://HOST:PORT, tls://HOST:PORT, ws://HOST:PORT/socket or wss://HOST:PORT/socket"),

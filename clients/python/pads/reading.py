@@ -26,10 +26,10 @@ def told(value: Any) -> None:
 async def list_pads(session: Session, asked: argparse.Namespace) -> None:
     pads = await session.pads()
     if asked.json:
-        told([pad._asdict() for pad in pads])
+        told([{"name": pad.name, "right": pad.right, "now": pad.now, **({"closed": True} if pad.is_closed else {})} for pad in pads])
     else:
         for pad in pads:
-            print(f"{pad.name}\t{pad.right}\t{pad.now}")
+            print(f"{pad.name}\t{pad.right}\t{pad.now}" + ("\tclosed" if pad.is_closed else ""))
 
 
 async def revision_of(visit: Visit, asked: argparse.Namespace) -> int | None:

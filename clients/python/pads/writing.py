@@ -33,10 +33,15 @@ async def saved(session: Session, patience: float) -> int:
             break
         except TimeoutError:
             if before == session.state != "saving":
-                why = message_of(session.held_by) if session.held_by else f"there was no connection for {patience:g} seconds"
-                raise Failure(Status.UNSAVED, why) from None
+                raise Failure(Status.UNSAVED, _why_unsent(session, patience)) from None
     assert session.pad
     return session.pad.rev
+
+
+def _why_unsent(session: Session, patience: float) -> str:
+    if session.held_by:
+        return message_of(session.held_by)
+    return f"{'the pad was closed' if session.state == 'closed' else 'there was no connection'} for {patience:g} seconds"
 
 
 async def create(session: Session, asked: argparse.Namespace) -> None:

@@ -182,7 +182,7 @@ class OptionsTest(unittest.TestCase):
         script = completion.bash()
         subprocess.run(["bash", "-n"], input=script, text=True, check=True)
         ask = 'COMP_WORDS=(pads {}) COMP_CWORD={}; _pads; echo "${{COMPREPLY[@]}}"'
-        for words, number, want in (("ex", 1, "export"), ("export p --format m", 4, "md"), ("grant p bob wr", 4, "write"), ("show --au", 2, "--authors")):
+        for words, number, want in (("ex", 1, "export"), ("clos", 1, "close"), ("export p --format m", 4, "md"), ("grant p bob wr", 4, "write"), ("show --au", 2, "--authors")):
             with self.subTest(words=words):
                 names = "_pads_names() { :; }"
                 done = subprocess.run(["bash", "-c", f"{script}\n{names}\n{ask.format(words, number)}"], capture_output=True, text=True, check=True)

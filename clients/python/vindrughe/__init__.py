@@ -12,7 +12,7 @@ from .comments import Comment, Comments
 from .connect import connect
 from .delta import Delta, Drop, Insert, Keep, Run, Step
 from .difference import difference
-from .errors import Lost, LostRevisions, Misfit, PadError, Refused, Superseded, Unsaved
+from .errors import Lost, LostRevisions, Misfit, PadClosed, PadError, Refused, Superseded, Unsaved
 from .events import (
     Came, Changed, CommentsChanged, Ended, Event, Moved, PresenceChanged, Received, Reread, RightsChanged, StateChanged, Went,
     WordsRefused,
@@ -22,7 +22,7 @@ from .history import ComparedRun, History, Revision
 from .kept import KeptWords
 from .pad import Pad
 from .presence import Person, Presence
-from .requests import Birth, Changes, Counts, Entry, Kind, LinkRight, Name, NamedRevision, PadRequests, PlacedComment, Present, Right
+from .requests import Access, Birth, Changes, Counts, Entry, Kind, LinkRight, Name, NamedRevision, PadRequests, PlacedComment, Present, Right
 from .session import Session, State
 from .sync import Pace
 from .transports import Channel, Opener, opener, tcp, websocket
@@ -31,9 +31,9 @@ from .visit import ListedPad, Visit
 __version__ = "0.1.0"
 
 __all__ = [
-    "Birth", "Came", "Changed", "Changes", "Channel", "Comment", "Comments", "CommentsChanged", "ComparedRun", "Counts", "Delta",
+    "Access", "Birth", "Came", "Changed", "Changes", "Channel", "Comment", "Comments", "CommentsChanged", "ComparedRun", "Counts", "Delta",
     "Drop", "Ended", "Entry", "Event", "History", "Insert", "Keep", "KeptWords", "Kind", "LinkRight", "ListedPad", "Lost", "LostRevisions",
-    "Misfit", "Moved", "Name", "NamedRevision", "Opener", "Pace", "Pad", "PadError", "PadRequests", "Person", "PlacedComment", "Presence",
+    "Misfit", "Moved", "Name", "NamedRevision", "Opener", "Pace", "Pad", "PadClosed", "PadError", "PadRequests", "Person", "PlacedComment", "Presence",
     "PresenceChanged", "Present", "Received", "Refused", "Reread", "Revision", "Right", "RightsChanged", "Run", "Session",
     "State", "StateChanged", "Step", "Superseded", "Unsaved", "Visit", "Went", "WordsRefused", "connect", "delta",
     "difference", "is_guest", "is_link", "limits", "new_secret", "opener", "tcp", "websocket",

@@ -7,15 +7,18 @@ from collections.abc import Coroutine
 from dataclasses import dataclass, field
 from typing import Any
 
-from .errors import Lost, Refused
+from .errors import Lost, PadClosed, Refused
 from .transports import Opener
 from .wire import Wire
 
-_FIRST_PAUSE, _LAST_PAUSE = 0.3, 5.0  # seconds
+_FIRST_PAUSE, _LAST_PAUSE, _CLOSED_PAUSE = 0.3, 5.0, 30.0  # seconds
 # Refusals that pass: out of memory, a full disk, too many clients. When a pad is joined again, also that it is crowded: the
 # visits of connections that broke may still be counted.
 PASSING = (900, 901, 902)
 _CROWDED = 313
+# There is no visit, since somebody else has ended it: by closing the pad, or by a join in place of it. The connection cannot join
+# that pad again.
+NOT_JOINED = 310
 
 
 @dataclass(frozen=True, slots=True)
@@ -171,13 +174,21 @@ class Connection:
             except Lost:
                 continue
             except Exception as error:
-                if isinstance(error, Refused) and error.code in (*PASSING, _CROWDED):
+                if isinstance(error, PadClosed):
+                    wait = _CLOSED_PAUSE
+                    continue
+                if isinstance(error, Refused) and error.code in (*PASSING, _CROWDED, NOT_JOINED):
                     continue
                 self.end_with(error)
                 return
             self.is_lost = False
             self._tell_state()
             return
+
+    def renew(self) -> None:
+        """Gives the connection up for another one."""
+        if self._wire:
+            self._wire.drop()
 
     def hurry(self) -> None:
         """Ends a pause between two attempts to connect, or an attempt that hangs."""

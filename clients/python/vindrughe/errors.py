@@ -3,6 +3,8 @@ from __future__ import annotations
 
 from typing import Any
 
+_CLOSED = 330
+
 
 class PadError(Exception):
     """What this library raises."""
@@ -23,7 +25,12 @@ class Refused(PadError):
 
     @classmethod
     def of(cls, reply: dict[str, Any], request: str = "") -> Refused:
-        return cls(reply["code"], reply["error"], request)
+        kind = PadClosed if reply["code"] == _CLOSED else Refused
+        return kind(reply["code"], reply["error"], request)
+
+
+class PadClosed(Refused):
+    """The pad is closed: nobody can change it, and only who may own it can join it."""
 
 
 class Lost(PadError):

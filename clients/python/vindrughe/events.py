@@ -54,7 +54,7 @@ class CommentsChanged(Event):
 
 @dataclass(frozen=True, slots=True)
 class RightsChanged(Event):
-    """`Session.right` and `Session.rights`."""
+    """`Session.right`, `Session.rights` and `Session.is_closed`."""
 
 
 @dataclass(frozen=True, slots=True)

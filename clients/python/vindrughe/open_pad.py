@@ -6,9 +6,9 @@ from collections.abc import Awaitable, Callable
 from typing import TYPE_CHECKING
 
 from .comments import Comment, Comments
-from .connection import PASSING
+from .connection import NOT_JOINED, PASSING
 from .delta import Step
-from .errors import Lost, Misfit, PadError, Refused
+from .errors import Lost, Misfit, PadClosed, PadError, Refused
 from .events import (
     Came, Changed, CommentsChanged, Event, Moved, PresenceChanged, Received, Reread, RightsChanged, StateChanged, Went,
     WordsRefused,
@@ -18,7 +18,7 @@ from .own_caret import OwnCaret
 from .pad import Pad
 from .presence import Presence
 from .pulse import Pulse
-from .requests import EVERYONE, RIGHTS, Right
+from .requests import EVERYONE, RIGHTS, Access, Right
 from .unsent import UnsentComments
 
 if TYPE_CHECKING:
@@ -28,6 +28,7 @@ _FIRST_TRY, _LAST_TRY = 1.0, 10.0  # seconds
 # Refusals that no edit gets if the server has the pad's text: no such revision, and a place behind its end.
 _UNFIT = (320, 321)
 _NO_VISIT = 329  # the server does not know the old visit
+_DENIED = 312  # the right is another one by now
 
 
 def _right_of(name: str, rights: list[tuple[str, Right]]) -> Right:
@@ -55,6 +56,8 @@ class OpenPad:
         self.comments: Comments = Comments(self.pad, unsent, lambda: self.tell(CommentsChanged()))
         self.right: Right = "none"
         self.rights: list[tuple[str, Right]] = []
+        self.is_closed = False
+        self.is_shut = False  # there is no visit, since the pad is closed and the author may not own it
         self.held_by: Refused | None = None
         self.refusal: Refused | None = None  # since `Session.saved` was asked
 
@@ -124,7 +127,12 @@ class OpenPad:
     async def rejoin(self, me: str) -> None:
         """There is another connection: the pad is joined instead of the old visit, so that nothing more comes of that one."""
         pad = self.pad
-        visit, is_made = await self._join_instead()
+        try:
+            visit, is_made = await self._join_instead()
+        except PadClosed:
+            self._shut()
+            raise
+        self.is_shut = False
         try:
             if not pad.is_unfit:
                 await pad.resume(visit, me, is_made)
@@ -140,6 +148,13 @@ class OpenPad:
             self.caret.is_new = True
             self.start()
             self.beside(self.refresh)
+
+    def _shut(self) -> None:
+        """An owner has closed the pad. Other connections ask now and then whether it is open again."""
+        if not self.is_shut:
+            self.is_closed = self.is_shut = True
+            self.tell(RightsChanged())
+            self.tell(StateChanged())
 
     async def _join_instead(self) -> tuple[int, bool | None]:
         """The new visit, and whether the old one has made more than was answered: None if the server does not know the old
@@ -170,6 +185,9 @@ class OpenPad:
             except Misfit:
                 self._doubt()
             except Refused as refusal:
+                if refusal.code == NOT_JOINED:
+                    self._session.renew()
+                    return
                 if refusal.code in _UNFIT:
                     self._doubt()
                 else:
@@ -211,7 +229,7 @@ class OpenPad:
             for at, words in pieces:
                 self._session.kept.add(words, at)
             self.tell(WordsRefused(refusal, "\n".join(words for _, words in pieces)))
-        if refusal.code == 312:
+        if refusal.code == _DENIED or isinstance(refusal, PadClosed):
             self.beside(self.read_rights)
         self.tell(StateChanged())
 
@@ -257,14 +275,15 @@ class OpenPad:
         self.tell(StateChanged())
 
     async def read_rights(self) -> None:
-        """Asks who has which right. Who has lost all of them sees none."""
-        rights: list[tuple[str, Right]] = []
+        """Asks who has which right, and whether the pad is closed. Who has lost all rights sees none."""
+        access = Access([], False)
         try:
-            rights = await self.pad.read_rights()
+            access = await self.pad.read_access()
         except Refused as refusal:
-            if refusal.code != 312:
+            if refusal.code != _DENIED:
                 raise
-        self.rights, self.right = rights, _right_of(self._session.name, rights)
+        self.rights, self.is_closed = access.rights, access.is_closed
+        self.right = _right_of(self._session.name, access.rights)
         self.tell(RightsChanged())
 
     def _made_comment(self, comment: Comment) -> None:
@@ -274,6 +293,9 @@ class OpenPad:
 
     def _refused_comment(self, refusal: Refused, text: str) -> bool:
         """Tells whether the comment is to be tried again. Otherwise its text is kept for the author."""
+        if refusal.code == NOT_JOINED:
+            self._session.renew()
+            return True
         is_passing = refusal.code in PASSING
         if is_passing:
             self.held_by = refusal

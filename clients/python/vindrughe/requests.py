@@ -111,6 +111,14 @@ class Present:
 
 
 @dataclass(frozen=True, slots=True)
+class Access:
+    """Who has which right, the owner first, and whether the pad is closed. `*` is everyone."""
+
+    rights: list[tuple[str, Right]]
+    is_closed: bool
+
+
+@dataclass(frozen=True, slots=True)
 class Counts:
     """The newest revision, and the characters of a pad: all, and those that are not erased."""
 
@@ -171,6 +179,22 @@ class PadRequests(ABC):
     async def hand(self, author: str) -> None:
         """Hands the pad over to an author. The owner before may still write."""
         await self.call("hand", author=author)
+
+    async def close(self) -> None:
+        """Closes the pad: nobody changes it any more, and who may not own it has to leave. A pad that is closed stays so.
+
+        Raises:
+            Refused: this author may not own the pad (312), and 102 by an older server.
+        """
+        await self.call("close")
+
+    async def reopen(self) -> None:
+        """Opens a pad again that was closed. One that is open stays so.
+
+        Raises:
+            Refused: this author may not own the pad (312), and 102 by an older server.
+        """
+        await self.call("reopen")
 
     async def invite(self, secret: str, right: LinkRight) -> None:
         """Makes a link for guests by its secret, 22 characters of base64url, or gives it another right."""
@@ -280,4 +304,9 @@ class PadRequests(ABC):
 
     async def read_rights(self) -> list[tuple[str, Right]]:
         """Who has which right. The owner is the first; `*` is everyone."""
-        return [(author, cast(Right, right)) for author, right in (await self.call("rights"))["rights"]]
+        return (await self.read_access()).rights
+
+    async def read_access(self) -> Access:
+        """Who has which right, and whether the pad is closed."""
+        reply = await self.call("rights")
+        return Access([(author, cast(Right, right)) for author, right in reply["rights"]], bool(reply.get("closed")))

@@ -7,7 +7,7 @@ from contextlib import asynccontextmanager
 from typing import Literal, TypeAlias, TypeVar, cast
 
 from .comments import Comments
-from .connection import Connection
+from .connection import NOT_JOINED, Connection
 from .errors import Lost, LostRevisions, PadError, Refused, Superseded, Unsaved
 from .events import CommentsChanged, Ended, Event, Events, StateChanged
 from .guests import is_guest, new_secret
@@ -22,7 +22,7 @@ from .visit import ListedPad, Visit
 
 _SETTLE, _LOOK = 5.0, 0.02  # seconds
 
-State: TypeAlias = Literal["saved", "saving", "held", "lost", "over"]
+State: TypeAlias = Literal["saved", "saving", "held", "closed", "lost", "over"]
 _Kind = TypeVar("_Kind", bound=Event)
 
 
@@ -85,8 +85,13 @@ class Session(Connection):
         return self._open.rights if self._open else []
 
     @property
+    def is_closed(self) -> bool:
+        """Whether the pad is closed: then only its owners may read it, and nobody changes it."""
+        return self._open is not None and self._open.is_closed
+
+    @property
     def may_write(self) -> bool:
-        return self.right in ("write", "own")
+        return self.right in ("write", "own") and not self.is_closed
 
     @property
     def held_by(self) -> Refused | None:
@@ -96,14 +101,19 @@ class Session(Connection):
     @property
     def state(self) -> State:
         """How the pad is. "saved" is said only when everything is sent and answered; "held" is a server that takes nothing at
-        the moment, "lost" a connection that is tried to be made again, and "over" a session that has ended by itself."""
+        the moment, "lost" a connection that is tried to be made again, "closed" a pad that the author may not own and that an owner
+        has closed (it is asked each half minute whether it is open again), and "over" a session that has ended by itself."""
         if self.is_over:
             return "over"
         if self.is_lost:
-            return "lost"
+            return "closed" if self._is_shut else "lost"
         if self.held_by:
             return "held"
         return "saving" if self.is_unsent else "saved"
+
+    @property
+    def _is_shut(self) -> bool:
+        return self._open is not None and self._open.is_shut
 
     @property
     def is_unsent(self) -> bool:
@@ -157,7 +167,8 @@ class Session(Connection):
 
     async def pads(self) -> list[ListedPad]:
         """The pads that the author may read."""
-        return [ListedPad(name, cast(Right, right), now) for name, right, now in (await self.call("pads"))["pads"]]
+        rows = (await self.call("pads"))["pads"]
+        return [ListedPad(name, cast(Right, right), now, "closed" in more) for name, right, now, *more in rows]
 
     async def people(self, authors: list[str]) -> dict[str, str]:
         """The display names of those of these authors of the server, 1 to 100, who have one."""
@@ -172,7 +183,7 @@ class Session(Connection):
                 as an edit of that revision, before anything else is followed.
 
         Raises:
-            Refused: there is no such pad (300), or no right to read it (312).
+            Refused: there is no such pad (300), no right to read it (312), or it is closed and the author may not own it (330).
             Unsaved: the pad before has changes that are not sent within some seconds.
             Superseded: another pad was asked for meanwhile.
             Lost: there is no connection.
@@ -194,13 +205,14 @@ class Session(Connection):
 
         async with self._entering:
             go_on()
-            if self.is_lost:
+            if self.is_lost and not self._is_shut:
                 raise Lost("not connected")
             if self.pad and not await self.settle():
                 raise Unsaved(f"{self.pad.name} has changes that are not sent")
             await self.leave()
+            await self._connected()
             go_on()
-            opened = OpenPad(self, name, (await self.call(do, pad=name))["visit"])
+            opened = OpenPad(self, name, await self._begin_visit(do, name))
             try:
                 go_on()
                 await load(opened.pad)
@@ -220,10 +232,32 @@ class Session(Connection):
         """Joins a pad without following it, for single requests, and leaves it at the end of the block.
 
         Raises:
-            Refused: there is no such pad (300), no right to read it (312), or this session has it open (311).
+            Refused: there is no such pad (300), no right to read it (312), this session has it open (311), or it is closed and the
+                author may not own it (330).
         """
-        yield Visit(self.call, name, (await self.call("join", pad=name))["visit"])
+        yield Visit(self.call, name, await self._begin_visit("join", name))
         await self._leave(name)
+
+    async def _begin_visit(self, do: str, name: str) -> int:
+        """Joins a pad, or creates it. Returns the number of the visit. Where somebody else has ended a visit to it on this connection,
+        it takes another one."""
+        try:
+            return int((await self.call(do, pad=name))["visit"])
+        except Refused as refusal:
+            if refusal.code != NOT_JOINED:
+                raise
+        self.renew()
+        await self._connected()
+        return int((await self.call(do, pad=name))["visit"])
+
+    async def _connected(self) -> None:
+        """Waits until there is another connection, if it was given up, for some seconds at most."""
+        loop = asyncio.get_running_loop()
+        end = loop.time() + _SETTLE
+        if self.is_lost:
+            self.hurry()
+        while self.is_lost and self._login and loop.time() < end:
+            await asyncio.sleep(_LOOK)
 
     async def leave(self) -> None:
         """Leaves the pad that is open, without waiting for what is not sent: `saved` does that."""
@@ -299,6 +333,26 @@ class Session(Connection):
         """
         opened = self._opened()
         await opened.pad.hand(author)
+        await opened.read_rights()
+
+    async def close_pad(self) -> None:
+        """Closes the pad: nobody changes it any more, and who may not own it has to leave. (`close` ends this session.)
+
+        Raises:
+            Refused: this author may not own the pad (312), or the server is an older one (102).
+        """
+        opened = self._opened()
+        await opened.pad.close()
+        await opened.read_rights()
+
+    async def reopen_pad(self) -> None:
+        """Opens a pad again that was closed.
+
+        Raises:
+            Refused: this author may not own the pad (312), or the server is an older one (102).
+        """
+        opened = self._opened()
+        await opened.pad.reopen()
         await opened.read_rights()
 
     async def invite(self, right: LinkRight) -> str:

@@ -8,11 +8,12 @@ from .requests import PadRequests, Right
 
 
 class ListedPad(NamedTuple):
-    """A pad that the author may read: its name, the author's right on it, and its newest revision."""
+    """A pad that the author may read: its name, the author's right on it, its newest revision, and whether it is closed."""
 
     name: str
     right: Right
     now: int
+    is_closed: bool = False
 
 
 class Visit(PadRequests):

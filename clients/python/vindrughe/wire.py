@@ -83,7 +83,7 @@ class Wire:
                 self._answer(json.loads(text))
         except (OSError, ValueError, asyncio.LimitOverrunError):
             pass  # it is broken, or no server of pads is at its other end
-        self._drop()
+        self.drop()
 
     def _answer(self, reply: dict[str, Any]) -> None:
         if not self._waiting:
@@ -120,9 +120,9 @@ class Wire:
         due = first.since
         if first.wait:
             due = max(due, self._waiting[1].since) if len(self._waiting) > 1 else due + first.wait
-        self._timer = asyncio.get_running_loop().call_at(due + first.most, self._drop)
+        self._timer = asyncio.get_running_loop().call_at(due + first.most, self.drop)
 
-    def _drop(self) -> None:
+    def drop(self) -> None:
         """The connection is over: what waits fails, and `on_down` is told."""
         was_up = self.is_up
         self.close()

@@ -8,12 +8,13 @@ use Rattle.pad_model.specs.declared.who.Who.{Who}
 use Rattle.pad_model.specs.declared.who.Who.TheVariants.{Nobody, Author, Peer}
 use Rattle.pad_model.specs.declared.who.Version.{Version}
 use Rattle.pad_model.specs.declared.refusal.Refusal.{Refusal}
-use Rattle.pad_model.specs.declared.refusal.Refusal.TheVariants.{BadOp, PeerFault, NoPad, NotPeer}
+use Rattle.pad_model.specs.declared.refusal.Refusal.TheVariants.{BadOp, PeerFault, NoPad, NotPeer, PadClosed}
 use Rattle.pad_model.proofs.Newer.{split}
 use Rattle.presence.specs.Presence.{Presence}
 use Rattle.sessions.specs.Session.{IsNamed}
 use Rattle.pad_core.specs.Delivered.{IsDelivered}
 use Rattle.pad_core.specs.Exchange.{both_of, received, settled, steps, unsettled}
+use Rattle.pad_core.specs.Closing.{is_closed}
 use Rattle.pad_core.specs.Machine.{Machine, author_act, author_refusal, author_step, on_delivery, peer_act}
 use Rattle.pad_core.specs.Machine.{session_step, step}
 use Rattle.pad_core.specs.Ran.{IsCutShort, Stepped, event_step}
@@ -82,9 +83,9 @@ author_steps : (owned : Option Owned) (own : ℕ) (log held : List Op) (p : Pres
     (visit : Option ℕ) (this : Act) → IsDelivered log → is_name name ≡ true → 1 ≤ own →
     ActsLocally own log held (author_step who name visit this (pad_with owned own log held p clock known)).1
 author_steps owned own log held p clock known who name visit this d named low =
-    at (author_refusal who.rights p name visit this) refl
+    at (author_refusal who p name visit this) refl
   where
-    at : (r : Option Refusal) → author_refusal who.rights p name visit this ≡ r →
+    at : (r : Option Refusal) → author_refusal who p name visit this ≡ r →
         ActsLocally own log held (author_step who name visit this (pad_with owned own log held p clock known)).1
     at (Some refusal) e = rw e (stays owned own log held p clock known)
     at None e = rw e (author_acts owned own log held p clock known who name (unwrap_or visit 0) this d named low)
@@ -138,11 +139,19 @@ peer_not_bad e = absurd (cc)
 peer_not_fault : NotPeer ≢ PeerFault
 peer_not_fault e = absurd (cc)
 
-no_peer : (made : List Op) (owned : Option Owned) (own : ℕ) (log held : List Op) (p : Presence) (clock : ℕ) (known : Made) →
-    Keeps made own log held → IsPushStep made own (Err NotPeer, pad_with owned own log held p clock known)
-no_peer made owned own log held p clock known k = record {
-  in_limits = λ e. absurd (peer_not_bad (same_err NotPeer BadOp e));
-  in_order = λ e. absurd (peer_not_fault (same_err NotPeer PeerFault e));
+closed_not_bad : PadClosed ≢ BadOp
+closed_not_bad e = absurd (cc)
+
+closed_not_fault : PadClosed ≢ PeerFault
+closed_not_fault e = absurd (cc)
+
+-- a push that is refused for what the session or the pad is
+unheard : (made : List Op) (owned : Option Owned) (own : ℕ) (log held : List Op) (p : Presence) (clock : ℕ) (known : Made)
+    (refusal : Refusal) → refusal ≢ BadOp → refusal ≢ PeerFault →
+    Keeps made own log held → IsPushStep made own (Err refusal, pad_with owned own log held p clock known)
+unheard made owned own log held p clock known refusal not_bad not_fault k = record {
+  in_limits = λ e. absurd (not_bad (same_err refusal BadOp e));
+  in_order = λ e. absurd (not_fault (same_err refusal PeerFault e));
   replica = refl;
   kept = k;
 }
@@ -167,10 +176,15 @@ push_session : (made : List Op) (owned : Option Owned) (own : ℕ) (log held : L
     (who : Who) (visit : Option ℕ) (op : Op) → IsMade made → Keeps made own log held →
     IsTakenIn made own (received own op (log, held)) →
     IsPushStep made own (session_step pad who visit (act.Push op) (pad_with owned own log held p clock known))
-push_session made owned own log held p clock known pad Nobody visit op m k t = no_peer made owned own log held p clock known k
-push_session made owned own log held p clock known pad (Author name) visit op m k t = no_peer made owned own log held p clock known k
+push_session made owned own log held p clock known pad Nobody visit op m k t =
+    unheard made owned own log held p clock known NotPeer peer_not_bad peer_not_fault k
+push_session made owned own log held p clock known pad (Author name) visit op m k t =
+    unheard made owned own log held p clock known NotPeer peer_not_bad peer_not_fault k
 push_session made owned own log held p clock known pad (Peer number version) visit op m k t =
-    let taken = received own op (log, held) in settles made owned own log held p clock known taken.0 taken.1.0 taken.1.1 m t
+    let taken = received own op (log, held) in
+    split (is_closed owned)
+    (λ e. rw e (unheard made owned own log held p clock known PadClosed closed_not_bad closed_not_fault k))
+    (λ e. rw e (settles made owned own log held p clock known taken.0 taken.1.0 taken.1.1 m t))
 
 -- a step whose act brings an operation that was made
 pub push_step : (made : List Op) (owned : Option Owned) (own : ℕ) (log held : List Op) (p : Presence) (clock : ℕ) (known : Made) (pad : List ℕ)

@@ -246,9 +246,9 @@ author_types : (owned : Option Owned) (own : ℕ) (at : ℕ) (text : List ℕ) (
     (pad : Owned) (author : List ℕ) (visit : Option ℕ) → IsHistory log →
     TypedBy log at text (author_step pad author visit (act.Insert (length log) at text) (pad_with owned own log held p clock known))
 author_types owned own at text log held p clock known pad author visit h =
-    case (author_refusal pad.rights p author visit (act.Insert (length log) at text)) refl
+    case (author_refusal pad p author visit (act.Insert (length log) at text)) refl
   where
-    case : (r : Option Refusal) → author_refusal pad.rights p author visit (act.Insert (length log) at text) ≡ r →
+    case : (r : Option Refusal) → author_refusal pad p author visit (act.Insert (length log) at text) ≡ r →
         TypedBy log at text (author_step pad author visit (act.Insert (length log) at text)
         (pad_with owned own log held p clock known))
     case (Some refusal) e = rw e (refused log at text refusal (pad_with owned own log held p clock known))

@@ -1,6 +1,6 @@
 -- From what an act does to a part of a pad to what it does to the pad.
 use Rattle.std.proofs.Common.{◌≡◌, ◌≤◌, Bool, true, false, cond, bytes_eq, inl, inr, ℕ, List, length, Option, Some}
-use Rattle.std.proofs.Common.{Result, Ok, Err, IsTrue, sym, ap, ap₂, ◌∙◌}
+use Rattle.std.proofs.Common.{Result, Ok, Err, IsTrue, refl, sym, ap, ap₂, ◌∙◌}
 use Rattle.std.proofs.Common.{subst, le-ltb, max, ◌-◌, ◌⊎◌}
 use Rattle.std.specs.List.{AllByRecursion}
 use Rattle.pad_model.specs.Checked.{is_name}
@@ -9,10 +9,11 @@ use Rattle.pad_model.specs.Stamp.{Stamp}
 use Rattle.pad_model.specs.Visible.{visible}
 use Rattle.pad_model.specs.declared.op.Op.{Op}
 use Rattle.pad_model.specs.declared.refusal.Refusal.{Refusal}
-use Rattle.pad_model.specs.declared.refusal.Refusal.TheVariants.{Denied, Memory}
+use Rattle.pad_model.specs.declared.refusal.Refusal.TheVariants.{Denied, Memory, PadClosed}
 use Rattle.pad_model.specs.declared.who.Version.{Version}
 use Rattle.pad_model.specs.declared.who.Who.TheVariants.{Peer}
 use Rattle.presence.specs.Presence.{Presence, with_caret}
+use Rattle.pad_core.specs.Closing.{is_closed}
 use Rattle.pad_core.specs.Counts.{characters_at}
 use Rattle.pad_core.specs.Machine.{IsOwned, IsPad, Machine, Outcome, applied, author_act, author_outcome, name_of}
 use Rattle.pad_core.specs.Machine.{on_delivery, on_log, peer_act}
@@ -106,15 +107,15 @@ pub push_answers : (o : Option Owned) (replica : ℕ) (log new held held' : List
     this ≡ act.Push op → length made.times ≡ length log →
     filled ≡ more (length new - length made.times) (max clock (last_time made.times)) 0 made →
     Answers (log, held) (push replica op (log, held)) result (new, held')
-    ⊎ ((result ≡ Err Memory) × Stopped replica op (log, held) (new, held')) →
+    ⊎ ((result ≡ Err Memory) × Stopped replica op (log, held) (new, held')) → is_closed m.owned ≡ false →
     machine o replica log held p clock made ≡ m → name_of m.owned ≡ Some name →
     Answers m (peer_act version this m) result (machine o replica new held' p clock filled)
     ⊎ ((result ≡ Err Memory) × IsCutShort name (Peer number version) this m
     (machine o replica new held' p clock filled))
 push_answers o replica log new held held' p clock made filled name number version this op result m is long fills done
-    same named =
+    open_yet same named =
     subst (λ (k : Machine). Goal k) same (by_end done (subst (λ (k : Machine). name_of k.owned ≡ Some name) (sym same)
-    named))
+    named) (subst (λ (k : Machine). is_closed k.owned ≡ false) (sym same) open_yet))
   where
     Goal : Machine → Type 0
     Goal k = Answers k (peer_act version this k) result (machine o replica new held' p clock filled)
@@ -143,13 +144,18 @@ push_answers o replica log new held held' p clock made filled name number versio
         )
 
     by_end : Answers (log, held) (push replica op (log, held)) result (new, held')
-        ⊎ ((result ≡ Err Memory) × Stopped replica op (log, held) (new, held')) → name_of o ≡ Some name → Goal old
-    by_end (inl h) called = inl (subst (λ (a : Act). Answers old (peer_act version a old) result
-        (machine o replica new held' p clock filled)) (sym is) (by_answer h))
-    by_end (inr h) called = inr (
+        ⊎ ((result ≡ Err Memory) × Stopped replica op (log, held) (new, held')) → name_of o ≡ Some name → is_closed o ≡ false → Goal old
+    by_end (inl h) called unshut = inl (subst (λ (a : Act). Answers old (peer_act version a old) result
+        (machine o replica new held' p clock filled)) (sym is) (rw unshut (by_answer h)))
+    by_end (inr h) called unshut = inr (
       h.0,
-      (tt, called, op, is, h.1, ap (machine o replica new held' p clock) fit),
+      (tt, called, op, is, h.1, ap (machine o replica new held' p clock) fit, unshut),
     )
+
+-- a push to a closed pad
+pub push_shut : (version : Version) (op : Op) (this : Act) (m : Machine) → this ≡ act.Push op → is_closed m.owned ≡ true →
+    peer_act version this m ≡ (Err PadClosed, m)
+push_shut version op this m is shut = rw is (rw shut refl)
 
 -- an operation that is delivered again
 pub restored_answers : (o : Option Owned) (replica : ℕ) (log new held : List Op) (p : Presence) (clock : ℕ)
@@ -241,6 +247,17 @@ IsPad-handed o replica held p owned now asker author new result kept is one done
       let was = subst (λ (x : Option Owned). IsOwned x p) is kept.named in
       let names = handed_names now asker author owned.rights new result done one (was.0, was.1) in
       (names.0, names.1, was.2);
+  replica_low = kept.replica_low;
+  replica_high = kept.replica_high;
+  waiting = kept.waiting;
+}
+
+-- a pad that was closed, or opened again
+pub IsPad-closed : (o : Option Owned) (replica : ℕ) (held : List Op) (p now : Presence) (owned : Owned)
+    (closed : Bool) → IsPad o replica held p → o ≡ Some owned →
+    IsPad (Some (record owned { closed = closed })) replica held now
+IsPad-closed o replica held p now owned closed kept is = record {
+  named = subst (λ (x : Option Owned). IsOwned x p) is kept.named;
   replica_low = kept.replica_low;
   replica_high = kept.replica_high;
   waiting = kept.waiting;

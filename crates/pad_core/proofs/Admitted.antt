@@ -15,6 +15,7 @@ use Rattle.rights.specs.declared.right.Right.{Right}
 use Rattle.rights.specs.declared.right.Right.TheVariants as right
 use Rattle.presence.specs.Presence.{Presence, has_number, is_joined_by}
 use Rattle.presence.specs.declared.presence.Visit.{Visit}
+use Rattle.pad_core.specs.Closing.{is_shut, or_closed}
 use Rattle.pad_core.specs.Machine.{IsAdmitted, IsOwned, Machine, author_act, author_refusal, author_step, names_badly}
 use Rattle.pad_core.specs.Machine.{need_of, need_refusal, or_denied, visit_refusal}
 use Rattle.pad_core.specs.declared.act.Act.{Act}
@@ -51,13 +52,19 @@ there : (p : Presence) (name : List ℕ) (visit : Option ℕ) → visit_refusal 
 there p name None e = absurd (cc)
 there p name (Some visit) e = number_there visit name p.present (joined (is_joined_by visit name p.present) e)
 
+not_closed : (r : Option Refusal) (b : Bool) → or_closed r b ≡ None → r ≡ None
+not_closed (Some x) b e = absurd (cc)
+not_closed None b e = refl
+
 -- the act's need was met
 need_met : (owned : Owned) (p : Presence) (name : List ℕ) (visit : Option ℕ) (act : Act) (need : Need) →
-    author_refusal owned.rights p name visit act ≡ None → need_of act ≡ need →
+    author_refusal owned p name visit act ≡ None → need_of act ≡ need →
     need_refusal owned.rights p name visit need ≡ None
 need_met owned p name visit act need h e =
     ap (λ n. need_refusal owned.rights p name visit n) (sym e)
-    ∙ (unless (names_badly act) BadName (need_refusal owned.rights p name visit (need_of act)) h).1
+    ∙ not_closed (need_refusal owned.rights p name visit (need_of act)) (is_shut owned name (need_of act))
+    (unless (names_badly act) BadName (or_closed (need_refusal owned.rights p name visit (need_of act))
+    (is_shut owned name (need_of act))) h).1
 
 -- who leaves is present with this visit
 pub admitted_leaver : (o : Option Owned) (p : Presence) (name : List ℕ) (visit : Option ℕ) (act : Act) →
@@ -92,14 +99,16 @@ pub admitted_grant : (o : Option Owned) (p : Presence) (name : List ℕ) (visit 
     (given : Option Right) → IsAdmitted o p name visit (act.Grant grantee given) → can_have grantee given ≡ true
 admitted_grant None p name visit grantee given h = absurd h
 admitted_grant (Some o) p name visit grantee given h = good_name (can_have grantee given)
-    (unless (not (can_have grantee given)) BadName (need_refusal o.rights p name visit (WithRight right.Own)) h).0
+    (unless (not (can_have grantee given)) BadName (or_closed (need_refusal o.rights p name visit (WithRight right.Own))
+    (is_shut o name (WithRight right.Own))) h).0
 
 -- whom a pad is handed over to has a name
 pub admitted_hand : (o : Option Owned) (p : Presence) (name : List ℕ) (visit : Option ℕ) (author : List ℕ) →
     IsAdmitted o p name visit (act.Hand author) → IsTrue (is_name author)
 admitted_hand None p name visit author h = absurd h
 admitted_hand (Some o) p name visit author h = good_name (is_name author)
-    (unless (not (is_name author)) BadName (need_refusal o.rights p name visit (WithRight right.Own)) h).0
+    (unless (not (is_name author)) BadName (or_closed (need_refusal o.rights p name visit (WithRight right.Own))
+    (is_shut o name (WithRight right.Own))) h).0
 
 -- a pad on which somebody was admitted has a name, so that what is kept of its rights does not depend on who is present
 pub owned_stays : (o : Option Owned) (p now : Presence) (name : List ℕ) (visit : Option ℕ) (act : Act) →
@@ -109,12 +118,12 @@ owned_stays (Some o) p now name visit act h owned = owned
 
 -- who is admitted does the act
 pub admitted_step : (lent owned : Owned) (inside p : Presence) (name : List ℕ) (visit : Option ℕ) (this : Act)
-    (m : Machine) (refused : Option Refusal) → refused ≡ author_refusal lent.rights inside name visit this →
+    (m : Machine) (refused : Option Refusal) → refused ≡ author_refusal lent inside name visit this →
     refused ≡ None → Some lent ≡ Some owned → inside ≡ m.presence →
     author_step owned name visit this m ≡ author_act owned name (unwrap_or visit 0) this m
 admitted_step lent owned inside p name visit this m refused is none same there =
-    let free : author_refusal owned.rights m.presence name visit this ≡ None =
-    ap₂ (λ (o : Owned) (q : Presence). author_refusal o.rights q name visit this) (sym (same_owned lent owned same))
+    let free : author_refusal owned m.presence name visit this ≡ None =
+    ap₂ (λ (o : Owned) (q : Presence). author_refusal o q name visit this) (sym (same_owned lent owned same))
     (sym there) ∙ sym is ∙ none in
     rw free refl
   where
@@ -124,12 +133,12 @@ admitted_step lent owned inside p name visit this m refused is none same there =
 -- who is not is refused
 pub refused_step : (lent owned : Owned) (inside p : Presence) (name : List ℕ) (visit : Option ℕ) (this : Act)
     (m : Machine) (refused : Option Refusal) (refusal : Refusal) →
-    refused ≡ author_refusal lent.rights inside name visit this → refused ≡ Some refusal → Some lent ≡ Some owned →
+    refused ≡ author_refusal lent inside name visit this → refused ≡ Some refusal → Some lent ≡ Some owned →
     inside ≡ m.presence →
     author_step owned name visit this m ≡ (Err refusal, m)
 refused_step lent owned inside p name visit this m refused refusal is some same there =
-    let why : author_refusal owned.rights m.presence name visit this ≡ Some refusal =
-    ap₂ (λ (o : Owned) (q : Presence). author_refusal o.rights q name visit this) (sym (same_owned lent owned same))
+    let why : author_refusal owned m.presence name visit this ≡ Some refusal =
+    ap₂ (λ (o : Owned) (q : Presence). author_refusal o q name visit this) (sym (same_owned lent owned same))
     (sym there) ∙ sym is ∙ some in
     rw why refl
   where

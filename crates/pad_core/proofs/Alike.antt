@@ -99,7 +99,7 @@ same_ok a b q = cc
 
 read_author : (a : Act) (told : List Op → Result PadReply Refusal) (owned : Owned) (name : List ℕ) (visit : Option ℕ)
     (m new : Machine) (reply : PadReply) (r : Option Refusal) → IsReading a told →
-    author_refusal owned.rights m.presence name visit a ≡ r → author_step owned name visit a m ≡ (Ok reply, new) →
+    author_refusal owned m.presence name visit a ≡ r → author_step owned name visit a m ≡ (Ok reply, new) →
     (told m.log ≡ Ok reply) × (m ≡ new)
 read_author a told owned name visit m new reply (Some refusal) is e done =
     absurd (ok_err reply refusal (ap (λ d. d.0) (rw e at done)))
@@ -113,7 +113,7 @@ read_session : (a : Act) (told : List Op → Result PadReply Refusal) (owned : O
     (told m.log ≡ Ok reply) × (m ≡ new)
 read_session a told owned Nobody visit m new reply is done = absurd (ok_err reply _ (ap (λ d. d.0) done))
 read_session a told owned (Author name) visit m new reply is done = read_author a told owned name visit m new reply
-    (author_refusal owned.rights m.presence name visit a) is refl done
+    (author_refusal owned m.presence name visit a) is refl done
 read_session a told owned (Peer number version) visit m new reply is done =
     absurd (ok_err reply NoSession (ap (λ d. d.0) (sym (is.1 version m) ∙ done)))
 

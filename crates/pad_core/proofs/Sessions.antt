@@ -80,6 +80,7 @@ peer_takes : (version : Version) (this : Act) (m : Machine) → IsOk (peer_act v
 peer_takes version act.Leave m ok = absurd (cc)
 peer_takes version (act.Caret rev at) m ok = absurd (cc)
 peer_takes version act.Revs m ok = absurd (cc)
+peer_takes version (act.SetClosed closed) m ok = absurd (cc)
 peer_takes version other m ok = refl
 
 -- an author's step

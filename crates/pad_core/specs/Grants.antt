@@ -1,5 +1,5 @@
 -- Who has which right on a pad.
-use Rattle.std.specs.Prelude.{ℕ, List, Option, Result, Ok, Err, bytes_eq, if◌then◌else◌}
+use Rattle.std.specs.Prelude.{ℕ, Bool, List, Option, Result, Ok, Err, bytes_eq, if◌then◌else◌}
 use Rattle.pad_model.specs.declared.refusal.Refusal.{Refusal}
 use Rattle.pad_model.specs.declared.refusal.Refusal.TheVariants.{Denied}
 use Rattle.rights.specs.Rights.{Rights, grant as granted, hand as handed, listed}
@@ -27,6 +27,6 @@ hand now asker author book =
     then (told_done now (handed book author).0, (handed book author).1)
     else (Err Denied, book)
 
--- all who have a right
-abbrev pub read_rights : ℕ → Rights → Result PadReply Refusal
-read_rights now book = Ok (reply.Rights now (listed book))
+-- whether the pad is closed, and all who have a right
+abbrev pub read_rights : ℕ → Bool → Rights → Result PadReply Refusal
+read_rights now closed book = Ok (reply.Rights now closed (listed book))

@@ -1,5 +1,5 @@
 -- What an author sees of a row of pads in a list of pads.
-use Rattle.std.specs.Prelude.{◌≡◌, ℕ, List, [], ◌∷◌, Option, Some, None, map, flat_map, option_map, is_some}
+use Rattle.std.specs.Prelude.{◌≡◌, ℕ, Bool, List, [], ◌∷◌, Option, Some, None, map, flat_map, option_map, is_some}
 use Rattle.std.specs.Prelude.{if◌then◌else◌}
 use Rattle.pad_model.specs.declared.who.Who.{Who}
 use Rattle.pad_model.specs.declared.who.Who.TheVariants.{Author}
@@ -11,17 +11,17 @@ use Rattle.pad_core.specs.declared.owned.Owned.{Owned}
 use Rattle.pad_core.specs.declared.reply.Listed.{Listed}
 
 -- a pad as it is listed for who has this right on it
-abbrev pub listed_with : List ℕ → ℕ → Right → Listed
-listed_with name now right = record { name = name; right = right; now = now }
+abbrev pub listed_with : List ℕ → ℕ → Bool → Right → Listed
+listed_with name now closed right = record { name = name; right = right; now = now; closed = closed }
 
--- a pad as somebody sees it in a list of pads: its name, the right that this author has on it and its present revision;
--- nothing if the pad has no name or the author no right, or if it is no author who asks
+-- a pad as somebody sees it in a list of pads: its name, the right that this author has on it, its present revision, and whether
+-- it is closed; nothing if the pad has no name or the author no right, or if it is no author who asks
 abbrev pub listing : Who → Machine → Option Listed
 listing (Author name) m = at_pad m.owned
   where
     at_pad : Option Owned → Option Listed
     at_pad None = None
-    at_pad (Some owned) = option_map (listed_with owned.name (now_of m))
+    at_pad (Some owned) = option_map (listed_with owned.name (now_of m) owned.closed)
         (right_of owned.rights name)
 listing other m = None
 

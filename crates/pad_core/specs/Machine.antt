@@ -9,12 +9,13 @@ use Rattle.pad_model.specs.declared.who.Who.TheVariants.{Nobody, Author, Peer}
 use Rattle.pad_model.specs.declared.who.Version.{Version}
 use Rattle.pad_model.specs.declared.refusal.Refusal.{Refusal}
 use Rattle.pad_model.specs.declared.refusal.Refusal.TheVariants.{NoSession, NotPeer, NoPad, BadName, NotJoined, Joined}
-use Rattle.pad_model.specs.declared.refusal.Refusal.TheVariants.{Denied}
+use Rattle.pad_model.specs.declared.refusal.Refusal.TheVariants.{Denied, PadClosed}
 use Rattle.pad_model.specs.declared.limits.TheConstants.{MAX_REPLICA}
 use Rattle.op_log.specs.Made.{Made, Makings}
 use Rattle.rights.specs.Rights.{Rights, can_have, may}
 use Rattle.rights.specs.declared.right.Right.TheVariants as right
 use Rattle.presence.specs.Presence.{Presence, is_joined_by, joined}
+use Rattle.pad_core.specs.Closing.{is_closed, is_shut, or_closed, set_closed}
 use Rattle.pad_core.specs.Edits.{insert, delete, edit}
 use Rattle.pad_core.specs.Exchange.{read_vector, pull, push}
 use Rattle.named_revisions.specs.declared.named_revision.NamedRevision.{NamedRevision}
@@ -27,7 +28,7 @@ use Rattle.pad_core.specs.Presence.{join, leave, put_caret, read_who, rejoin}
 use Rattle.pad_core.specs.Reads.{read_birth, read_changes, read_comments, read_entries, read_revs, read_revs_at, read_runs, read_text, read_times}
 use Rattle.pad_core.specs.Times.{time_now, timed}
 use Rattle.pad_core.specs.declared.admit.Need.{Need}
-use Rattle.pad_core.specs.declared.admit.Need.TheVariants.{NewVisit, AnyVisit, Visit, PeerSession}
+use Rattle.pad_core.specs.declared.admit.Need.TheVariants.{NewVisit, AnyVisit, Visit, Closing, PeerSession}
 use Rattle.pad_core.specs.declared.owned.Owned.{Owned}
 use Rattle.pad_core.specs.declared.act.Act.{Act}
 use Rattle.pad_core.specs.declared.act.Act.TheVariants as act
@@ -80,6 +81,7 @@ need_of act.Who = Visit right.Read
 need_of (act.Grant grantee given) = Visit right.Own
 need_of (act.Hand author) = Visit right.Own
 need_of act.Rights = Visit right.Read
+need_of (act.SetClosed closed) = Closing
 need_of (act.Mark rev text) = Visit right.Write
 need_of act.Marks = Visit right.Read
 need_of (act.Introduce display) = Visit right.Read
@@ -114,19 +116,21 @@ need_refusal book p name visit NewVisit = or_denied (visit_refusal p name visit 
 need_refusal book p name visit AnyVisit = visit_refusal p name visit false
 need_refusal book p name visit (Visit least) = or_denied (visit_refusal p name visit false)
     (may book name least)
+need_refusal book p name visit Closing = or_denied (visit_refusal p name visit false)
+    (may book name right.Own)
 need_refusal book p name visit PeerSession = Some NotPeer
 
 -- why an author may not do an act, if so, before the act itself is examined
-abbrev pub author_refusal : Rights → Presence → List ℕ → Option ℕ → Act → Option Refusal
-author_refusal book p name visit act = if names_badly act then Some BadName
-    else need_refusal book p name visit
-    (need_of act)
+abbrev pub author_refusal : Owned → Presence → List ℕ → Option ℕ → Act → Option Refusal
+author_refusal owned p name visit act = if names_badly act then Some BadName
+    else or_closed (need_refusal owned.rights p name visit (need_of act)) (is_shut owned name (need_of act))
 
 -- the refusal that an unauthenticated session gets
 abbrev pub nobody_refusal : Need → Refusal
 nobody_refusal NewVisit = NoSession
 nobody_refusal AnyVisit = NoSession
 nobody_refusal (Visit least) = NoSession
+nobody_refusal Closing = NoSession
 nobody_refusal PeerSession = NotPeer
 
 -- whether a session is of the kind that an act requires
@@ -154,6 +158,8 @@ pub data Outcome : Type 0 where
   visits : Result PadReply Refusal × Presence → Outcome
   -- the rights
   grants : Result PadReply Refusal × Rights → Outcome
+  -- whether it is closed, and who is present
+  closes : Result PadReply Refusal × (Bool × Presence) → Outcome
   -- which revisions have a name
   names : Result PadReply Refusal × List NamedRevision → Outcome
   -- what guests call themselves
@@ -182,6 +188,19 @@ with_rights (Some owned) rights = Some (record owned { rights = rights })
 abbrev pub on_rights : Option Owned → Machine → Result PadReply Refusal × Rights
     → Result PadReply Refusal × Machine
 on_rights owned m done = (done.0, record m { owned = with_rights owned done.1 })
+
+-- a pad that is closed or open, if it has a name
+abbrev pub with_closed : Option Owned → Bool → Option Owned
+with_closed None closed = None
+with_closed (Some owned) closed = Some (record owned { closed = closed })
+
+-- an act that closes a pad, or opens it again
+abbrev pub on_closed : Option Owned → Machine → Result PadReply Refusal × (Bool × Presence)
+    → Result PadReply Refusal × Machine
+on_closed owned m done = (
+  done.0,
+  record m { owned = with_closed owned done.1.0; presence = done.1.1 },
+)
 
 -- a pad with other named revisions, if it has a name itself
 abbrev pub with_marks : Option Owned → List NamedRevision → Option Owned
@@ -221,6 +240,7 @@ applied owned (reads answer) m = (answer, m)
 applied owned (writes visit done) m = on_log m visit done
 applied owned (visits done) m = on_presence m done
 applied owned (grants done) m = on_rights owned m done
+applied owned (closes done) m = on_closed owned m done
 applied owned (names done) m = on_marks owned m done
 applied owned (introduces done) m = on_guests owned m done
 applied owned (delivers done) m = on_delivery m done
@@ -259,7 +279,9 @@ author_outcome owned name visit (act.Grant grantee given) m = grants
     (grant (now_of m) grantee given owned.rights)
 author_outcome owned name visit (act.Hand author) m = grants
     (hand (now_of m) name author owned.rights)
-author_outcome owned name visit act.Rights m = reads (read_rights (now_of m) owned.rights)
+author_outcome owned name visit act.Rights m = reads (read_rights (now_of m) owned.closed owned.rights)
+author_outcome owned name visit (act.SetClosed closed) m = closes
+    (set_closed (now_of m) closed owned.rights m.presence)
 author_outcome owned name visit (act.Mark rev text) m = names (mark (now_of m) (record {
   rev = rev;
   author = name;
@@ -275,7 +297,8 @@ author_outcome owned name visit other m = reads (Err NotPeer)
 -- what each act of a peer comes to
 abbrev pub peer_outcome : Version → Act → Machine → Outcome
 peer_outcome version act.Vector m = reads (read_vector version m.log)
-peer_outcome version (act.Push op) m = delivers (push m.replica op (m.log, m.held))
+peer_outcome version (act.Push op) m = if is_closed m.owned then reads (Err PadClosed)
+    else delivers (push m.replica op (m.log, m.held))
 peer_outcome version (act.Pull seen max batch) m = reads (pull version seen max batch m.log)
 peer_outcome version other m = reads (Err NoSession)
 
@@ -291,7 +314,7 @@ peer_act version act m = applied m.owned (peer_outcome version act m) m
 abbrev pub author_step : Owned → List ℕ → Option ℕ → Act → Machine
     → Result PadReply Refusal × Machine
 author_step owned name visit act m = unless_refused
-    (author_refusal owned.rights m.presence name visit act)
+    (author_refusal owned m.presence name visit act)
   where
     unless_refused : Option Refusal → Result PadReply Refusal × Machine
     unless_refused (Some refusal) = (Err refusal, m)
@@ -322,11 +345,13 @@ name_of (Some owned) = Some owned.name
 abbrev pub nobody_present : ℕ → Presence
 nobody_present limit = record { limit = limit; given = 0; present = []; authors = [] }
 
--- what a claim gives a pad: a name and an owner; nobody else has a right, no revision a name, and no guest has come
+-- what a claim gives a pad, which is open: a name and an owner; nobody else has a right, no revision a name, and no guest
+-- has come
 abbrev pub new_owned : List ℕ → List ℕ → Owned
 new_owned name owner = record {
   name = name;
   rights = record { owner = owner; everyone = None; grants = [] };
+  closed = false;
   marks = [];
   guests = [];
 }
@@ -348,7 +373,7 @@ claim name owner m = claim_of m.owned
 -- an author was admitted to an act
 abbrev pub IsAdmitted : Option Owned → Presence → List ℕ → Option ℕ → Act → Type 0
 IsAdmitted None p name visit act = ⊥
-IsAdmitted (Some owned) p name visit act = author_refusal owned.rights p name visit act ≡ None
+IsAdmitted (Some owned) p name visit act = author_refusal owned p name visit act ≡ None
 
 -- a pad without a name was never joined; one with a name has a well-formed one, and so has each author with a right on
 -- it

@@ -6,6 +6,7 @@ use Rattle.pad_model.specs.declared.refusal.Refusal.{Refusal}
 use Rattle.pad_model.specs.declared.refusal.Refusal.TheVariants.{Memory}
 use Rattle.pad_model.specs.declared.who.Who.{Who}
 use Rattle.pad_model.specs.declared.who.Who.TheVariants.{Nobody, Author, Peer}
+use Rattle.pad_core.specs.Closing.{is_closed}
 use Rattle.pad_core.specs.Exchange.{Stopped}
 use Rattle.pad_core.specs.Machine.{Machine, name_of, step}
 use Rattle.pad_core.specs.Times.{timed}
@@ -20,7 +21,7 @@ IsPeer Nobody = ⊥
 IsPeer (Author name) = ⊥
 IsPeer (Peer number version) = Unit {0}
 
--- a peer's push to this pad was received, and the release that it began was out of memory for an operation that is
+-- a peer's push to this pad, which was open, was received, and the release that it began was out of memory for an operation that is
 -- ready and still held: those before it were released
 abbrev pub IsCutShort : List ℕ → Who → Act → Machine → Machine → Type 0
 IsCutShort pad who this old new =
@@ -31,12 +32,14 @@ IsCutShort pad who this old new =
       held = new.held;
       made = timed old.clock 0 old.log new.log old.made;
     })
+    × (is_closed old.owned ≡ false)
 
--- whether an act may take memory: the end of a visit, a caret and the length of a pad take none
+-- whether an act may take memory: the end of a visit, a caret, the length of a pad, and to close or reopen it take none
 abbrev pub takes_memory : Act → Bool
 takes_memory act.Leave = false
 takes_memory (act.Caret rev at) = false
 takes_memory act.Revs = false
+takes_memory (act.SetClosed closed) = false
 takes_memory other = true
 
 -- the machine's step at an event

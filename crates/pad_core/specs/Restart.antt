@@ -88,6 +88,15 @@ restore_hand author m = at m.owned
         else (let done = handed_again author (Some owned) in
         (done.0, record m { owned = done.1 }))
 
+-- a pad is closed, or opened again, if it has a name
+abbrev pub closed_again : Bool → Option Owned → Result (Unit {0}) Refusal × Option Owned
+closed_again closed None = (Err NoPad, None)
+closed_again closed (Some owned) = (Ok tt, Some (record owned { closed = closed }))
+
+-- a pad is closed, or opened again, as it was before: nobody is present, whose visit could end
+abbrev pub restore_closed : Bool → Machine → Result (Unit {0}) Refusal × Machine
+restore_closed closed m = let done = closed_again closed m.owned in (done.0, record m { owned = done.1 })
+
 -- a revision gets its name, if the pad has one itself
 abbrev pub marked_again : ℕ → NamedRevision → Option Owned → Result (Unit {0}) Refusal × Option Owned
 marked_again now this None = (Err NoPad, None)

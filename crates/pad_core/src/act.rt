@@ -112,8 +112,12 @@ pub enum Act {
     Hand {
         author: Name,
     },
-    /// Reads who has which right.
+    /// Reads who has which right, and whether the pad is closed.
     Rights,
+    /// Closes the pad, or opens it again.
+    SetClosed {
+        closed: bool,
+    },
     /// Gives a revision a name.
     Mark {
         rev: u64,
@@ -217,6 +221,7 @@ impl Clone for Act {
                 author: author.clone()?,
             },
             Act::Rights => Act::Rights,
+            Act::SetClosed { closed } => Act::SetClosed { closed: *closed },
             Act::Mark { rev, text } => Act::Mark {
                 rev: *rev,
                 text: text.clone()?,

@@ -5,6 +5,8 @@ ghost use Rattle.pad_core.specs.Machine as machine;
 ghost use Rattle.rights.specs.Rights.{may};
 
 use crate::act::Act;
+use crate::closing::is_shut;
+use crate::owned::Owned;
 use pad_model::{Name, Refusal, Who};
 use presence::PresenceBook;
 use rights::{Right, RightsBook};
@@ -18,6 +20,8 @@ pub enum Need {
     AnyVisit,
     /// An author's visit, and a right.
     Visit(Right),
+    /// An author's visit, and the right to own, on a closed pad too.
+    Closing,
     /// A peer's session.
     PeerSession,
 }
@@ -48,24 +52,33 @@ pub fn need_of(act: &Act) -> Need
         | Act::Introduce { .. }
         | Act::Guests => Need::Visit(Right::Read),
         Act::Grant { .. } | Act::Hand { .. } => Need::Visit(Right::Own),
+        Act::SetClosed { .. } => Need::Closing,
         Act::Vector | Act::Push { .. } | Act::Pull { .. } => Need::PeerSession,
     }
 }
 
 /// Returns the reason an author may not do an act, or None. The first refusal that applies is returned.
 pub fn author_refusal(
-    rights: &RightsBook,
+    owned: &Owned,
     presence: &PresenceBook,
     name: &Name,
     visit: Option<u64>,
     act: &Act,
 ) -> Option<Refusal>
-    ensures { result ≡ machine.author_refusal rights.now presence.now name.now visit act.now }
+    ensures { result ≡ machine.author_refusal owned.now presence.now name.now visit act.now }
 {
     if names_badly(act) {
         return Some(Refusal::BadName);
     }
-    refuse_need(rights, presence, name, visit, need_of(act))
+    let need = need_of(act);
+    if let Some(refusal) = refuse_need(&owned.rights, presence, name, visit, need) {
+        return Some(refusal);
+    }
+    if is_shut(owned, name, need) {
+        Some(Refusal::PadClosed)
+    } else {
+        None
+    }
 }
 
 /// The refusal that an unauthenticated session gets.
@@ -74,7 +87,7 @@ pub fn nobody_refusal(need: Need) -> Refusal
 {
     match need {
         Need::PeerSession => Refusal::NotPeer,
-        Need::NewVisit | Need::AnyVisit | Need::Visit(_) => Refusal::NoSession,
+        Need::NewVisit | Need::AnyVisit | Need::Visit(_) | Need::Closing => Refusal::NoSession,
     }
 }
 
@@ -129,6 +142,7 @@ fn refuse_need(
         Need::NewVisit => refuse_right(rights, presence, name, visit, true, Right::Read),
         Need::AnyVisit => visit_refusal(presence, name, visit, false),
         Need::Visit(right) => refuse_right(rights, presence, name, visit, false, right),
+        Need::Closing => refuse_right(rights, presence, name, visit, false, Right::Own),
         Need::PeerSession => Some(Refusal::NotPeer),
     }
 }

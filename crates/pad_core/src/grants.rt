@@ -38,10 +38,19 @@ pub fn hand(
     Ok(PadReply::Done { now })
 }
 
-/// All who have a right.
-pub fn read_rights(alloc: Global, rights: &RightsBook, now: u64) -> Result<PadReply, Refusal>
-    ensures { Tells (grants.read_rights now rights.now) result }
+/// Whether the pad is closed, and all who have a right.
+pub fn read_rights(
+    alloc: Global,
+    rights: &RightsBook,
+    now: u64,
+    closed: bool,
+) -> Result<PadReply, Refusal>
+    ensures { Tells (grants.read_rights now closed rights.now) result }
 {
     let rights = rights.list(alloc)?;
-    Ok(PadReply::Rights { now, rights })
+    Ok(PadReply::Rights {
+        now,
+        closed,
+        rights,
+    })
 }

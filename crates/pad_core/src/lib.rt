@@ -5,6 +5,7 @@ mod act;
 mod admit;
 mod append;
 mod batch;
+mod closing;
 mod demand;
 mod edit;
 mod enter;

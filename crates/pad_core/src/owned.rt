@@ -1,5 +1,5 @@
-//! The name and rights that a claim gives a pad, the names of its revisions, and those of its guests.
-ghost use Rattle.std.specs.Prelude.{◌≡◌, ◌+◌, [], Ok, Option, None, Some, MatchResult};
+//! The name and rights that a claim gives a pad, whether it is closed, the names of its revisions, and those of its guests.
+ghost use Rattle.std.specs.Prelude.{◌≡◌, ◌+◌, false, [], Ok, Option, None, Some, MatchResult};
 ghost use Rattle.pad_model.specs.Answers.{Answers};
 ghost use Rattle.presence.specs.Presence.{Presence, joined};
 ghost use Rattle.pad_core.specs.Machine.{new_owned, nobody_present};
@@ -13,11 +13,13 @@ use presence::PresenceBook;
 use rights::RightsBook;
 use std::alloc::Global;
 
-/// The name of a pad, who may do what with it, the names of its revisions, and the display names of its guests.
+/// The name of a pad, who may do what with it, whether it is closed, the names of its revisions, and the display names of its
+/// guests.
 #[derive(Drop)]
 pub struct Owned {
     pub name: Name,
     pub rights: RightsBook,
+    pub closed: bool,
     pub marks: NamedRevisions,
     pub guests: GuestBook,
 }
@@ -26,7 +28,7 @@ impl Owned {
     pub fn new(alloc: Global, name: &str, owner: &str) -> Result<Owned, Refusal>
         ensures { MatchResult result (λ owned. (owned.name ≡ name.now)
             × (owned.rights ≡ record { owner = owner.now; everyone = None; grants = [] })
-            × (owned.marks ≡ []) × (owned.guests ≡ []))
+            × (owned.closed ≡ false) × (owned.marks ≡ []) × (owned.guests ≡ []))
             (λ e. e ≡ Refusal.Memory) }
     {
         let name = Name::from_str(alloc, name)?;
@@ -34,6 +36,7 @@ impl Owned {
         Ok(Owned {
             name,
             rights: RightsBook::new(alloc, owner),
+            closed: false,
             marks: NamedRevisions::new(alloc),
             guests: GuestBook::new(alloc),
         })

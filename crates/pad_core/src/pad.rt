@@ -6,6 +6,7 @@ ghost use Rattle.op_log.specs.Times.{IsRising};
 ghost use Rattle.pad_model.specs.Checked.{is_name};
 ghost use Rattle.pad_model.specs.declared.limits.TheConstants.{MAX_REPLICA};
 ghost use Rattle.pad_model.specs.Seen.{count_in};
+ghost use Rattle.pad_core.specs.Closing.{is_closed};
 ghost use Rattle.pad_core.specs.Counts.{vector_of};
 ghost use Rattle.pad_core.specs.Delivered.{IsDelivered};
 ghost use Rattle.pad_core.specs.Laws.{LastReadsAlike};
@@ -21,6 +22,7 @@ ghost use Rattle.pad_core.specs.Ran as ran;
 
 use crate::act::Act;
 use crate::admit::{author_refusal, need_of, nobody_refusal};
+use crate::closing::set_closed;
 use crate::edit::{delete, edit, insert};
 use crate::event::{Claim, PadEvent};
 use crate::exchange::{pull, read_vector};
@@ -37,7 +39,8 @@ use crate::reads::{
 };
 use crate::reply::{Listed, PadReply};
 use crate::restart::{
-    deliver_again, grant_again, hand_again, introduce_again, mark_again, own_again, visit_again,
+    close_again, deliver_again, grant_again, hand_again, introduce_again, mark_again, own_again,
+    visit_again,
 };
 use crate::visits::{depart, join, leave, put_caret, read_who, rejoin};
 use crate::writer::{Passage, Writer};
@@ -196,11 +199,12 @@ impl<S: Sequence> Pad<S> {
             name: owned.name.clone()?,
             right,
             now: self.ledger.len(),
+            closed: owned.closed,
         }))
     }
 
     /// Answers an event and makes its changes, or runs out of memory and changes nothing. A push whose release runs out
-    /// of memory has made the steps before. `leave`, `caret` and `revs` take no memory.
+    /// of memory has made the steps before. `leave`, `caret`, `revs`, and to close or reopen it take no memory.
     pub fn step(&mut self, alloc: Global, event: &PadEvent<'_>) -> Result<PadReply, Refusal>
         ensures { Stepped self.old event.now result self.new }
     {
@@ -299,6 +303,13 @@ impl<S: Sequence> Pad<S> {
             return Err(Refusal::BadName);
         }
         hand_again(&mut self.owned, author)
+    }
+
+    /// Closes the pad, or opens it again, as it was done before a restart.
+    pub fn restore_closed(&mut self, closed: bool) -> Result<(), Refusal>
+        ensures { restart_spec.restore_closed closed self.old ≡ (result, self.new) }
+    {
+        close_again(&mut self.owned, closed)
     }
 
     /// Gives a revision the name that it had before a restart.
@@ -406,7 +417,7 @@ impl<S: Sequence> Pad<S> {
         let Some(owned) = &self.owned else {
             return Err(Refusal::NoPad);
         };
-        if let Some(refusal) = author_refusal(&owned.rights, &self.presence, name, visit, act) {
+        if let Some(refusal) = author_refusal(owned, &self.presence, name, visit, act) {
             return Err(refusal);
         }
         self.author_act(alloc, name, visit, act)
@@ -502,7 +513,11 @@ impl<S: Sequence> Pad<S> {
                 None => Err(Refusal::NoPad),
             },
             Act::Rights => match &self.owned {
-                Some(owned) => read_rights(alloc, &owned.rights, ledger.len()),
+                Some(owned) => read_rights(alloc, &owned.rights, ledger.len(), owned.closed),
+                None => Err(Refusal::NoPad),
+            },
+            Act::SetClosed { closed } => match &mut self.owned {
+                Some(owned) => set_closed(owned, &mut self.presence, ledger.len(), *closed),
                 None => Err(Refusal::NoPad),
             },
             Act::Mark { rev, text } => match &mut self.owned {
@@ -528,6 +543,16 @@ impl<S: Sequence> Pad<S> {
         }
     }
 
+    /// Returns true if an owner has closed the pad.
+    fn is_closed(&self) -> bool
+        ensures { result ≡ is_closed self.now.owned }
+    {
+        match &self.owned {
+            Some(owned) => owned.closed,
+            None => false,
+        }
+    }
+
     /// A peer's act on the pad of this name.
     fn peer_act(&mut self, alloc: Global, version: Version, act: &Act) -> Result<PadReply, Refusal>
         ensures { (name : _) (number : ℕ) → name_of self.old.owned ≡ Some name
@@ -537,6 +562,7 @@ impl<S: Sequence> Pad<S> {
     {
         match act {
             Act::Vector => read_vector(&self.ledger, version),
+            Act::Push { .. } if self.is_closed() => Err(Refusal::PadClosed),
             Act::Push { op } => {
                 let made = &mut self.made;
                 let reply = push(

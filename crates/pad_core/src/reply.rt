@@ -45,6 +45,7 @@ pub struct Listed {
     pub right: Right,
     /// Its present revision.
     pub now: u64,
+    pub closed: bool,
 }
 
 /// An author with a display name.
@@ -158,9 +159,10 @@ pub enum PadReply {
         now: u64,
         who: Items<Present>,
     },
-    /// The rights of each grantee: the owner first, then everyone, then by first grant.
+    /// Whether the pad is closed, and the rights of each grantee: the owner first, then everyone, then by first grant.
     Rights {
         now: u64,
+        closed: bool,
         rights: Items<Grant>,
     },
     /// The revisions with a name, in the order in which they were named.

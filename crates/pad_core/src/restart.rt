@@ -3,7 +3,7 @@ ghost use Rattle.std.specs.Prelude.{◌≡◌, ◌≤◌, length, ◌++◌, ◌�
 ghost use Rattle.pad_model.specs.Answers.{Answers};
 ghost use Rattle.presence.specs.Presence.{Presence, counted};
 ghost use Rattle.pad_core.specs.Machine.{new_owned, nobody_present};
-ghost use Rattle.pad_core.specs.Restart.{author_if, delivered_again, granted_again, handed_again, introduced_again, marked_again, visited};
+ghost use Rattle.pad_core.specs.Restart.{author_if, closed_again, delivered_again, granted_again, handed_again, introduced_again, marked_again, visited};
 ghost use Rattle.pad_core.specs.Restart as restart;
 ghost use Rattle.pad_core.specs.declared.owned.Owned.{Owned};
 
@@ -80,6 +80,19 @@ pub fn hand_again(owned: &mut Option<Owned>, author: &Name) -> Result<(), Refusa
 {
     match owned {
         Some(owned) => owned.rights.hand(author),
+        None => Err(Refusal::NoPad),
+    }
+}
+
+/// Closes the pad, or opens it again, if it has a name.
+pub fn close_again(owned: &mut Option<Owned>, closed: bool) -> Result<(), Refusal>
+    ensures { closed_again closed owned.old ≡ (result, owned.new) }
+{
+    match owned {
+        Some(owned) => {
+            owned.closed = closed;
+            Ok(())
+        }
         None => Err(Refusal::NoPad),
     }
 }

@@ -6,7 +6,7 @@ use Rattle.pad_model.specs.declared.refusal.Refusal.TheVariants.{HaveSession, Bu
 use Rattle.pad_model.specs.declared.refusal.Refusal.TheVariants.{NotJoined, Joined, Denied, Crowded, VisitsSpent}
 use Rattle.pad_model.specs.declared.refusal.Refusal.TheVariants.{OwnerKept, GrantsFull, SeatsGone, SeatsOut, ActorsFull}
 use Rattle.pad_model.specs.declared.refusal.Refusal.TheVariants.{NoRevision, OutOfRange, Empty, TooMuch, PadFull}
-use Rattle.pad_model.specs.declared.refusal.Refusal.TheVariants.{ClockFull, NoComment, LogFull, CommentsFull, NoVisit, BadOp}
+use Rattle.pad_model.specs.declared.refusal.Refusal.TheVariants.{ClockFull, NoComment, LogFull, CommentsFull, NoVisit, PadClosed, BadOp}
 use Rattle.pad_model.specs.declared.refusal.Refusal.TheVariants.{HoldFull, PeerFault, NotPeer, OldPeer, BadStamp}
 use Rattle.pad_model.specs.declared.refusal.Refusal.TheVariants.{Memory, StoreFull}
 
@@ -43,6 +43,7 @@ code_of NoComment = 326
 code_of LogFull = 327
 code_of CommentsFull = 328
 code_of NoVisit = 329
+code_of PadClosed = 330
 code_of BadOp = 400
 code_of HoldFull = 402
 code_of PeerFault = 403
@@ -85,6 +86,7 @@ name_of NoComment = codes "NoComment"
 name_of LogFull = codes "LogFull"
 name_of CommentsFull = codes "CommentsFull"
 name_of NoVisit = codes "NoVisit"
+name_of PadClosed = codes "PadClosed"
 name_of BadOp = codes "BadOp"
 name_of HoldFull = codes "HoldFull"
 name_of PeerFault = codes "PeerFault"

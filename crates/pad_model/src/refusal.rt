@@ -71,6 +71,8 @@ pub enum Refusal {
     CommentsFull,
     /// 329: no visit of this author has the number.
     NoVisit,
+    /// 330: the pad is closed.
+    PadClosed,
     /// 400: the operation breaks a limit or has a faulty form.
     BadOp,
     /// 402: 256 operations are held back.
@@ -126,6 +128,7 @@ impl Refusal {
             Refusal::LogFull => 327,
             Refusal::CommentsFull => 328,
             Refusal::NoVisit => 329,
+            Refusal::PadClosed => 330,
             Refusal::BadOp => 400,
             Refusal::HoldFull => 402,
             Refusal::PeerFault => 403,
@@ -173,6 +176,7 @@ impl Refusal {
             Refusal::LogFull => "LogFull",
             Refusal::CommentsFull => "CommentsFull",
             Refusal::NoVisit => "NoVisit",
+            Refusal::PadClosed => "PadClosed",
             Refusal::BadOp => "BadOp",
             Refusal::HoldFull => "HoldFull",
             Refusal::PeerFault => "PeerFault",

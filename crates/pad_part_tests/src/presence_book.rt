@@ -2,6 +2,7 @@
 use crate::presence_book::VisitCase::{Caret, Count, Holds, Instead, Join, Leave, Present};
 use pad_model::{Name, Refusal, Stamp, Version, Who};
 use presence::{DEFAULT_PRESENT, MAX_PRESENT, PresenceBook, Visit};
+use rights::{Grantee, Right, RightsBook};
 use sessions::{Room, Session};
 use std::alloc::Global;
 use std::process::Abort;
@@ -143,6 +144,43 @@ const VISITS: &[VisitCase] = &[
     Caret(3, None, Ok(())),
     Present(&[(3, "ann", None), (4, "bob", None)]),
 ];
+
+/// Ann owns the pad, bob may own it, and eve and everyone may write.
+fn rights_of_two_owners(alloc: Global) -> Result<RightsBook, Refusal> {
+    let mut rights = RightsBook::new(alloc, Name::from_str(alloc, "ann")?);
+    for (name, right) in [("bob", Right::Own), ("eve", Right::Write)] {
+        let grantee = Grantee::Author(Name::from_str(alloc, name)?);
+        rights.grant(&grantee, Some(right))?;
+    }
+    rights.grant(&Grantee::Everyone, Some(Right::Write))?;
+    Ok(rights)
+}
+
+const BEFORE_CLOSING: &[VisitCase] = &[
+    Join("ann", Ok(1)),
+    Join("eve", Ok(2)),
+    Join("bob", Ok(3)),
+    Join("ann", Ok(4)),
+    Join("joe", Ok(5)),
+    Caret(3, Some((7, 2)), Ok(())),
+];
+
+const AFTER_CLOSING: &[VisitCase] = &[
+    Present(&[(1, "ann", None), (3, "bob", Some((7, 2))), (4, "ann", None)]),
+    Holds(2, "eve", false),
+    Leave(5, Err(Refusal::NotJoined)),
+    Join("eve", Ok(6)),
+    Instead(2, "eve", Ok(7)),
+];
+
+#[test]
+fn owners_alone_stay(rt: HostRuntime) -> Result<(), Fail> {
+    let rights = rights_of_two_owners(rt.alloc())?;
+    let mut book = PresenceBook::new(rt.alloc(), DEFAULT_PRESENT);
+    play_all(&rt, rt.alloc(), &mut book, BEFORE_CLOSING)?;
+    book.keep_owners(&rights);
+    Ok(play_all(&rt, rt.alloc(), &mut book, AFTER_CLOSING)?)
+}
 
 #[test]
 fn join_and_leave(rt: HostRuntime) -> Result<(), Fail> {

@@ -44,7 +44,7 @@ same_ok a b q = cc
 
 read_author : (a : Act) (told : Machine → Result PadReply Refusal) (owned : Owned) (name : List ℕ) (visit : Option ℕ)
     (m new : Machine) (reply : PadReply) (r : Option Refusal) → IsReading a told →
-    author_refusal owned.rights m.presence name visit a ≡ r → author_step owned name visit a m ≡ (Ok reply, new) →
+    author_refusal owned m.presence name visit a ≡ r → author_step owned name visit a m ≡ (Ok reply, new) →
     (told m ≡ Ok reply) × (m ≡ new)
 read_author a told owned name visit m new reply (Some refusal) is e done =
     absurd (ok_err reply refusal (ap (λ d. d.0) (rw e at done)))
@@ -58,7 +58,7 @@ read_session : (a : Act) (told : Machine → Result PadReply Refusal) (owned : O
     (told m ≡ Ok reply) × (m ≡ new)
 read_session a told owned Nobody visit m new reply is done = absurd (ok_err reply _ (ap (λ d. d.0) done))
 read_session a told owned (Author name) visit m new reply is done = read_author a told owned name visit m new reply
-    (author_refusal owned.rights m.presence name visit a) is refl done
+    (author_refusal owned m.presence name visit a) is refl done
 read_session a told owned (Peer number version) visit m new reply is done =
     absurd (ok_err reply NoSession (ap (λ d. d.0) (sym (is.1 version m) ∙ done)))
 
@@ -123,7 +123,7 @@ abbrev read_from : Result PadReply Refusal × Machine → List Op × List ℕ
 read_from done = (done.1.log, done.1.made.times)
 
 joins_author : (owned : Owned) (name : List ℕ) (visit : Option ℕ) (m : Machine) (r : Option Refusal) →
-    author_refusal owned.rights m.presence name visit act.Join ≡ r →
+    author_refusal owned m.presence name visit act.Join ≡ r →
     read_from (author_step owned name visit act.Join m) ≡ (m.log, m.made.times)
 joins_author owned name visit m (Some refusal) e = rw e refl
 joins_author owned name visit m None e = rw e refl
@@ -132,7 +132,7 @@ joins_session : (owned : Owned) (who : Who) (visit : Option ℕ) (m : Machine) �
     read_from (session_step owned who visit act.Join m) ≡ (m.log, m.made.times)
 joins_session owned Nobody visit m = refl
 joins_session owned (Author name) visit m =
-    joins_author owned name visit m (author_refusal owned.rights m.presence name visit act.Join) refl
+    joins_author owned name visit m (author_refusal owned m.presence name visit act.Join) refl
 joins_session owned (Peer number version) visit m = refl
 
 joins_step : (pad : List ℕ) (who : Who) (visit : Option ℕ) (o : Option Owned) (replica : ℕ) (log held : List Op)

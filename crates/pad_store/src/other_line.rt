@@ -64,6 +64,10 @@ fn line_with(
         StoreLine::Record(Record::Handed { author }) => {
             format!(in alloc; "- {time} - owner {}\n", author.as_str())
         }
+        StoreLine::Record(Record::Closed { closed }) => {
+            let done = if *closed { "closed" } else { "reopened" };
+            format!(in alloc; "- {time} - {done}\n")
+        }
         StoreLine::Record(Record::Marked { named }) => named_line(alloc, named),
         StoreLine::Record(Record::Introduced { guest }) => {
             let display = quoted(alloc, guest.display.as_slice())?;

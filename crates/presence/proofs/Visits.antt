@@ -1,7 +1,7 @@
 -- The visits of a pad, as the entries of the map that keeps them.
-use Rattle.std.proofs.Common.{◌≡◌, ℕ, ◌+◌, ◌<◌, Bool, true, false, ◌||◌, List, [], ◌∷◌, ◌++◌, Option, None}
+use Rattle.std.proofs.Common.{◌≡◌, ℕ, ◌+◌, ◌<◌, Bool, true, false, not, ◌||◌, List, [], ◌∷◌, ◌++◌, Option, None}
 use Rattle.std.proofs.Common.{length, Some, Ok, Err, is_some, refl, sym, ap, ap₂, subst, ◌∙◌, arith, nat_eq, bytes_eq}
-use Rattle.std.specs.List.{AllByRecursion, list_any}
+use Rattle.std.specs.List.{AllByRecursion, filter, list_any}
 use Rattle.std.specs.Map.{lookup, remove_entry, set_value}
 use Rattle.std.proofs.lemmas.Bool.{ne_eqb, eqb-true, cond-true, cond-false}
 use Rattle.std.proofs.lemmas.List.{length-map}
@@ -15,8 +15,10 @@ use Rattle.pad_model.proofs.Each.{each-append, each-imply}
 use Rattle.presence.specs.declared.presence.Visit.{Visit}
 use Rattle.presence.specs.declared.presence.Visitor.{Visitor}
 use Rattle.presence.specs.Presence.{Presence, joined, OnVisit, AreNumbered, has_number, left, with_caret}
-use Rattle.presence.specs.Presence.{is_joined_by}
+use Rattle.presence.specs.Presence.{is_by_owner, is_joined_by}
 use Rattle.presence.specs.Inside.{visit_of, visits_of}
+use Rattle.rights.specs.Rights.{Rights, may}
+use Rattle.rights.specs.declared.right.Right.TheVariants.{Own}
 
 -- a visit is present if its entry is found
 pub present_where_found : (n : ℕ) (es : List (ℕ × Visitor)) → list_any (has_number n) (visits_of es)
@@ -46,22 +48,37 @@ left_entries last n (e ∷ es) h =
     _ h.2))))
     (λ f. rw f (ap (λ (r : List Visit). visit_of e.0 e.1 ∷ r) (left_entries last n es h.3)))
 
-each_stays : (P : Visit → Type 0) (n : ℕ) (vs : List Visit) → AllByRecursion P vs → AllByRecursion P (left n vs)
-each_stays P n [] h = tt
-each_stays P n (v ∷ vs) h = split (nat_eq n v.number) (λ t. rw t (each_stays P n vs h.1))
-    (λ f. rw f (h.0, each_stays P n vs h.1))
+each_kept : (P : Visit → Type 0) (keeps : Visit → Bool) (vs : List Visit) → AllByRecursion P vs →
+    AllByRecursion P (filter keeps vs)
+each_kept P keeps [] h = tt
+each_kept P keeps (v ∷ vs) h = split (keeps v) (λ t. rw t (h.0, each_kept P keeps vs h.1))
+    (λ f. rw f (each_kept P keeps vs h.1))
 
-pub left_numbered : (last n : ℕ) (vs : List Visit) → AreNumbered last vs → AreNumbered last (left n vs)
-left_numbered last n [] h = tt
-left_numbered last n (v ∷ vs) h =
-    split (nat_eq n v.number)
-    (λ t. rw t (left_numbered last n vs h.3))
-    (λ f. rw f (
+-- some of the visits, in their order, are numbered as all are
+pub kept_numbered : (keeps : Visit → Bool) (last : ℕ) (vs : List Visit) → AreNumbered last vs →
+    AreNumbered last (filter keeps vs)
+kept_numbered keeps last [] h = tt
+kept_numbered keeps last (v ∷ vs) h =
+    split (keeps v)
+    (λ t. rw t (
       h.0,
       h.1,
-      each_stays (λ (later : Visit). v.number < later.number) n vs h.2,
-      left_numbered last n vs h.3,
+      each_kept (λ (later : Visit). v.number < later.number) keeps vs h.2,
+      kept_numbered keeps last vs h.3,
     ))
+    (λ f. rw f (kept_numbered keeps last vs h.3))
+
+pub left_numbered : (last n : ℕ) (vs : List Visit) → AreNumbered last vs → AreNumbered last (left n vs)
+left_numbered last n vs h = kept_numbered (λ visit. not (has_number n visit)) last vs h
+
+-- the visits of those entries whose authors may own the pad
+pub owners_entries : (rights : Rights) (es : List (ℕ × Visitor)) →
+    visits_of (filter (λ entry. may rights entry.1.author Own) es) ≡ filter (is_by_owner rights) (visits_of es)
+owners_entries rights [] = refl
+owners_entries rights (e ∷ es) =
+    split (may rights e.1.author Own)
+    (λ t. rw t (ap (λ (r : List Visit). visit_of e.0 e.1 ∷ r) (owners_entries rights es)))
+    (λ f. rw f (owners_entries rights es))
 
 -- those with other numbers keep their carets
 others_keep : (c : Option Stamp) (n : ℕ) (vs : List Visit) → AllByRecursion (λ v. n < v.number) vs → with_caret c n vs

@@ -9,6 +9,8 @@ use Rattle.pad_model.specs.declared.refusal.Refusal.TheVariants.{Crowded, Visits
 use Rattle.presence.specs.Authors.{is_author_at}
 use Rattle.presence.specs.declared.presence.TheConstants.{MAX_VISITS}
 use Rattle.presence.specs.declared.presence.Visit.{Visit}
+use Rattle.rights.specs.Rights.{Rights, may}
+use Rattle.rights.specs.declared.right.Right.TheVariants.{Own}
 
 -- how many may be present at once, how many visit numbers were given out, the visits that are present, in order of
 -- joining, and for each number that was given out, whose visit it was, where that is known
@@ -64,6 +66,14 @@ left number present = filter (λ visit. not (has_number number visit)) present
 -- nobody has this visit any more
 abbrev pub without : ℕ → Presence → Presence
 without visit p = record p { present = left visit p.present }
+
+-- whether a visit is that of an author who may own the pad
+abbrev pub is_by_owner : Rights → Visit → Bool
+is_by_owner rights visit = may rights visit.author Own
+
+-- nobody has a visit any more who may not own the pad
+abbrev pub owners_alone : Rights → Presence → Presence
+owners_alone rights p = record p { present = filter (is_by_owner rights) p.present }
 
 -- why an author cannot join instead of an old visit, apart from memory
 abbrev pub rejoin_refusal : ℕ → List ℕ → Presence → Option Refusal

@@ -1,6 +1,6 @@
 //! Presence on a pad: visits, from a join to its end, with their carets.
 //!
-//! It depends on `pad_model` and `indexmap`. The crates above decide whether a session may join.
+//! It depends on `pad_model`, `rights` and `indexmap`. The crates above decide whether a session may join.
 #![tactic(auto)]
 
 mod author_list;

@@ -2,12 +2,15 @@
 ghost use Rattle.std.specs.Prelude.{◌≡◌, ◌+◌, ◌<◌, ◌≤◌, ◌^◌, [], ◌∷◌, ◌++◌, None, Some, length, IfOk, IfErr, IsTrue, OnErr, OnOk, MatchResult, option_copied, unwrap_or};
 ghost use Rattle.indexmap.specs.IndexMap.{spare};
 ghost use Rattle.pad_model.specs.declared.refusal.Refusal.{Refusal};
-ghost use Rattle.presence.specs.Presence.{counted, is_joined_by, join_refusal, joined, left, rejoin_refusal, spent_refusal, was_given, with_caret, without, OnVisit, AreNumbered};
+ghost use Rattle.presence.specs.Presence.{counted, is_joined_by, join_refusal, joined, left, owners_alone, rejoin_refusal, spent_refusal, was_given, with_caret, without, OnVisit, AreNumbered};
 ghost use Rattle.presence.specs.Inside.{visit_of};
+ghost use Rattle.rights.specs.Rights.{may};
+ghost use Rattle.rights.specs.declared.right.Right.TheVariants.{Own};
 
 use crate::author_list::AuthorList;
 use indexmap::IndexMap;
 use pad_model::{Items, Name, Refusal, Stamp};
+use rights::{Right, RightsBook};
 use std::alloc::{AllocError, Global};
 use std::marker::Model;
 
@@ -183,6 +186,18 @@ impl PresenceBook {
             return Err(Refusal::NotJoined);
         };
         Ok(())
+    }
+
+    /// Ends the visits of all who may not own the pad, as when it is closed. It takes no memory.
+    pub fn keep_owners(&mut self, rights: &RightsBook)
+        ensures { self.new ≡ owners_alone rights.now self.old }
+    {
+        self.visitors.retain(
+            |_number: &u64, visitor: &mut Visitor| -> bool
+                ensures { (result ≡ may rights.entry.now visitor.old.author Own)
+                    × (visitor.new ≡ visitor.old) }
+            { rights.may(&visitor.author, Right::Own) },
+        );
     }
 
     /// Puts the caret of a visit after a character, or at the start.

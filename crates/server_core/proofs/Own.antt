@@ -13,7 +13,7 @@ use Rattle.sessions.specs.Session.{is_of}
 use Rattle.sessions.specs.declared.session.Room.{Room}
 use Rattle.pad_core.specs.Machine.{Machine, Outcome, applied, author_act, author_outcome, author_refusal, author_step}
 use Rattle.pad_core.specs.Machine.{name_of, peer_act, peer_outcome, session_step, step}
-use Rattle.pad_core.specs.Machine.Outcome.{reads, writes, visits, grants, names, introduces, delivers}
+use Rattle.pad_core.specs.Machine.Outcome.{reads, writes, visits, grants, closes, names, introduces, delivers}
 use Rattle.pad_core.specs.declared.act.Act.{Act}
 use Rattle.pad_core.specs.declared.act.Act.TheVariants as act
 use Rattle.pad_core.specs.declared.owned.Owned.{Owned}
@@ -29,6 +29,8 @@ outcome-name o (writes visit done) m h = h
 outcome-name o (visits done) m h = h
 outcome-name None (grants done) m h = refl
 outcome-name (Some owned) (grants done) m h = refl
+outcome-name None (closes done) m h = refl
+outcome-name (Some owned) (closes done) m h = refl
 outcome-name None (names done) m h = refl
 outcome-name None (introduces done) m h = refl
 outcome-name (Some owned) (names done) m h = refl
@@ -43,7 +45,7 @@ author-name : (owned : Owned) (name : List ℕ) (visit : ℕ) (m : Machine) (a :
 author-name owned name visit m a h = outcome-name (Some owned) (author_outcome owned name visit a m) m h
 
 by_refusal : (owned : Owned) (name : List ℕ) (visit : Option ℕ) (a : Act) (m : Machine) (r : Option Refusal) →
-    author_refusal owned.rights m.presence name visit a ≡ r → name_of m.owned ≡ Some owned.name →
+    author_refusal owned m.presence name visit a ≡ r → name_of m.owned ≡ Some owned.name →
     name_of (author_step owned name visit a m).1.owned ≡ Some owned.name
 by_refusal owned name visit a m (Some refusal) e h = rw e h
 by_refusal owned name visit a m None e h = rw e (author-name owned name (unwrap_or visit 0) m a h)
@@ -52,7 +54,7 @@ session-name : (owned : Owned) (who : Who) (visit : Option ℕ) (a : Act) (m : M
     ≡ Some owned.name → name_of (session_step owned who visit a m).1.owned ≡ Some owned.name
 session-name owned Nobody visit a m h = h
 session-name owned (Author name) visit a m h =
-    by_refusal owned name visit a m (author_refusal owned.rights m.presence name visit a) refl h
+    by_refusal owned name visit a m (author_refusal owned m.presence name visit a) refl h
 session-name owned (Peer number version) visit a m h = peer-name version m a ∙ h
 
 by_owned : (name : List ℕ) (who : Who) (visit : Option ℕ) (a : Act) (m : Machine) (o : Option Owned) → m.owned ≡ o →

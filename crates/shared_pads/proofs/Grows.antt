@@ -17,7 +17,7 @@ use Rattle.pad_model.specs.declared.op.Op.{Op}
 use Rattle.pad_model.specs.declared.op.OpName.{OpName}
 use Rattle.pad_model.specs.declared.op.Part.{Part}
 use Rattle.pad_model.specs.declared.refusal.Refusal.{Refusal}
-use Rattle.pad_model.specs.declared.refusal.Refusal.TheVariants.{Memory, NoPad, NoSession, NotPeer}
+use Rattle.pad_model.specs.declared.refusal.Refusal.TheVariants.{Memory, NoPad, NoSession, NotPeer, PadClosed}
 use Rattle.pad_model.specs.declared.who.Who.{Who}
 use Rattle.pad_model.specs.declared.who.Who.TheVariants as who
 use Rattle.pad_model.specs.declared.who.Version.{Version}
@@ -30,7 +30,8 @@ use Rattle.pad_core.specs.Edits.{edit_refusal, edited, made_parts, told_hidden, 
 use Rattle.pad_core.specs.Notes.{noted}
 use Rattle.pad_core.specs.Exchange.{Delivery, delivered, received, release, settled, steps, taken_out, unsettled}
 use Rattle.pad_core.specs.Exchange.{settle}
-use Rattle.pad_core.specs.Machine.{Machine, author_act, author_refusal, author_step, peer_act, session_step, step}
+use Rattle.pad_core.specs.Closing.{is_closed}
+use Rattle.pad_core.specs.Machine.{Machine, Outcome, applied, author_act, author_refusal, author_step, peer_act, session_step, step}
 use Rattle.pad_core.specs.Machine.{need_of, nobody_refusal}
 use Rattle.pad_core.specs.declared.act.Act.{Act}
 use Rattle.pad_core.specs.declared.act.Act.TheVariants as act
@@ -263,7 +264,9 @@ author_grows owned name visit other m = kept (Ok None) m.log
 peer_grows : (version : Version) (act : Act) (m : Machine) →
     GrownBy (effect_of act) (passed_on (peer_act version act m).0) m.log (peer_act version act m).1.log
 peer_grows version (act.Push op) m =
-    settles m.log (received m.replica op (m.log, m.held)) (receives m.replica op m.log m.held)
+    either (λ (come : Outcome). GrownBy Takes (passed_on (applied m.owned come m).0) m.log (applied m.owned come m).1.log)
+    (is_closed m.owned) _ _ (refused Takes PadClosed m.log)
+    (settles m.log (received m.replica op (m.log, m.held)) (receives m.replica op m.log m.held))
 peer_grows version other m = refused (effect_of other) NoSession m.log
 
 -- what a session does on a pad that has a name
@@ -272,21 +275,21 @@ session_grows : (owned : Owned) (who : Who) (visit : Option ℕ) (act : Act) (m 
     (session_step owned who visit act m).1.log
 session_grows owned who.Nobody visit act m = refused (effect_of act) (nobody_refusal (need_of act)) m.log
 session_grows owned (who.Peer number version) visit act m = peer_grows version act m
-session_grows owned (who.Author name) visit act m = at (author_refusal owned.rights m.presence name visit act) refl
+session_grows owned (who.Author name) visit act m = at (author_refusal owned m.presence name visit act) refl
   where
     Goal : Result PadReply Refusal × Machine → Type 0
     Goal done = GrownBy (effect_of act) (passed_on done.0) m.log done.1.log
 
-    at : (r : Option Refusal) → author_refusal owned.rights m.presence name visit act ≡ r →
+    at : (r : Option Refusal) → author_refusal owned m.presence name visit act ≡ r →
         Goal (author_step owned name visit act m)
     at (Some e) is = subst Goal (sym (the_refused e is)) (refused (effect_of act) e m.log)
       where
-        the_refused : (e : Refusal) → author_refusal owned.rights m.presence name visit act ≡ Some e →
+        the_refused : (e : Refusal) → author_refusal owned m.presence name visit act ≡ Some e →
             author_step owned name visit act m ≡ (Err e, m)
         the_refused e is = rw is refl
     at None is = subst Goal (sym (the_act is)) (author_grows owned name (unwrap_or visit 0) act m)
       where
-        the_act : author_refusal owned.rights m.presence name visit act ≡ None → author_step owned name visit act m
+        the_act : author_refusal owned m.presence name visit act ≡ None → author_step owned name visit act m
             ≡ author_act owned name (unwrap_or visit 0) act m
         the_act is = rw is refl
 
@@ -366,7 +369,7 @@ visited_grows w asked cell rooms m answer new after (inr (told, same, inl (same_
     subst (λ (a : Answer). Grown asked a m.log after.log) (sym told)
     (subst (λ (x : Machine). Grown asked (Err Memory) m.log x.log) (sym same_pad) (unread asked m.log))
 visited_grows w asked cell rooms m answer new after
-    (inr (told, same, inr (name, what, on, (peer, there, op, is, (ok, n, left, stuck), whole)))) =
+    (inr (told, same, inr (name, what, on, (peer, there, op, is, (ok, n, left, stuck), whole, unshut)))) =
     subst (λ (a : Answer). Grown asked a m.log after.log) (sym told)
     (subst (λ (r : Request). Grown r (Err Memory) m.log after.log) (sym (on ∙ ap (λ a. request.On name a) is))
     (at (stops n m.replica op m.log m.held)))

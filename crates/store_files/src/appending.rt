@@ -3,7 +3,7 @@ ghost use Rattle.std.specs.Prelude.{◌≡◌, IfOk};
 
 use crate::keeper::Keeper;
 use crate::pad_device::PadDevice;
-use crate::pad_end::{PadEnd, open_end};
+use crate::pad_end::{PadEnd, open_end, path_of};
 use group_commit::{Commit, Committed, Notes, Uncommitted, append};
 use log::error;
 use server_log::ServerLog;
@@ -77,16 +77,17 @@ impl<'r, 'k, R: Wait> Files<'r, 'k, R> {
     }
 
     // Opens the file of a pad. Where that fails, the files of others are closed for it, one after the other: the system may
-    // have no more.
+    // have no more. If there is no memory for its path, none is closed.
     fn open_again(&self, alloc: Global, pad: &str) -> io::Result<File> {
-        let (files, folder) = (&self.keeper.files, self.keeper.folder.as_str());
+        let files = &self.keeper.files;
+        let path = path_of(alloc, self.keeper.folder.as_str(), pad)?;
         for _ in &self.keeper.pads {
-            match open_end(alloc, files, folder, pad) {
+            match open_end(files, path.as_str()) {
                 Err(_) if self.close_oldest() => {}
                 done => return done,
             }
         }
-        open_end(alloc, files, folder, pad)
+        open_end(files, path.as_str())
     }
 
     // Notes that the file of a cell was appended to, and closes another one if more are open than may be. It is called under no lock
@@ -101,21 +102,37 @@ impl<'r, 'k, R: Wait> Files<'r, 'k, R> {
     }
 
     // Closes the file that was written longest ago, and returns true if there was one. It is called under the lock of another pad:
-    // a file that is used just now stays open.
+    // a file that is used just now stays open and is noted again. If another thread has taken its place meanwhile, the file that is
+    // to be closed for it is tried next.
     fn close_oldest(&self) -> bool {
         let Some(oldest) = self.keeper.open.lock(self.rt).take_oldest() else {
             return false;
         };
-        let Some(end) = self.keeper.pads.get(oldest as usize) else {
-            return true;
-        };
-        match end.try_lock() {
-            Some(mut end) => end.file = None,
-            None => {
-                let _closed = self.keeper.open.lock(self.rt).note(oldest);
+        let mut candidate = oldest;
+        for _ in &self.keeper.pads {
+            if self.close_unused(candidate) {
+                return true;
+            }
+            match self.keeper.open.lock(self.rt).note(candidate) {
+                Some(other) if other != candidate => candidate = other,
+                _ => return true,
             }
         }
         true
+    }
+
+    // Closes the file of a cell, unless it is used just now.
+    fn close_unused(&self, cell: u32) -> bool {
+        let Some(end) = self.keeper.pads.get(cell as usize) else {
+            return true;
+        };
+        match end.try_lock() {
+            Some(mut end) => {
+                end.file = None;
+                true
+            }
+            None => false,
+        }
     }
 
     // The number of bytes of a file.

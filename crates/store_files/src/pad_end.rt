@@ -39,10 +39,9 @@ pub fn path_of(alloc: Global, folder: &str, pad: &str) -> io::Result<String> {
     Ok(format!(in alloc; "{folder}/{pad}.pad")?)
 }
 
-/// Opens the file of a pad, which is there, for appending and reading.
-pub fn open_end(alloc: Global, files: &HostRuntime, folder: &str, pad: &str) -> io::Result<File> {
-    let path = path_of(alloc, folder, pad)?;
+/// Opens the file at a path, which is there, for appending and reading.
+pub fn open_end(files: &HostRuntime, path: &str) -> io::Result<File> {
     let mut options = OpenOptions::new();
     options.read(true).append(true);
-    options.open(files, path.as_str())
+    options.open(files, path)
 }

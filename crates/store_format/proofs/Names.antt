@@ -14,7 +14,8 @@ use Rattle.pad_core.specs.Restart.{author_if, restore_claim}
 use Rattle.pad_core.specs.declared.owned.Owned.{Owned}
 use Rattle.store_records.specs.Records.{rebuilt, replay, replay_all, replayed, unless_refused, unnamed}
 use Rattle.store_records.specs.declared.kept_record.Record.{Record}
-use Rattle.store_records.specs.declared.kept_record.Record.TheVariants.{Named, Granted, Handed, Marked, Introduced, Visited, Delivered}
+use Rattle.store_records.specs.declared.kept_record.Record.TheVariants.{Named, Granted, Handed, Closed, Marked, Introduced, Visited}
+use Rattle.store_records.specs.declared.kept_record.Record.TheVariants.{Delivered}
 use Rattle.store_format.specs.Files.{Read, if_called, if_named}
 use Rattle.store_format.specs.declared.reader.Damage.TheVariants.{Empty, OtherPad}
 
@@ -45,6 +46,7 @@ one_stays (Granted grantee right) owned m =
 one_stays (Handed author) owned m =
     either (λ (done : Result (Unit {0}) Refusal × Machine). name_of done.1.owned ≡ Some owned.name)
     (not (is_name author)) (Err BadName, owning (Some owned) m) _ refl refl
+one_stays (Closed closed) owned m = refl
 one_stays (Marked this) owned m =
     either (λ (done : Result (Unit {0}) Refusal × Machine). name_of done.1.owned ≡ Some owned.name)
     (not (is_name this.author)) (Err BadName, owning (Some owned) m) _ refl refl

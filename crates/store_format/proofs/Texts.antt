@@ -14,7 +14,8 @@ use Rattle.rights.specs.declared.right.Right.{Right}
 use Rattle.rights.specs.declared.right.Right.TheVariants as right
 use Rattle.pad_model.specs.declared.op.Op.{Op}
 use Rattle.store_records.specs.declared.kept_record.Record.{Record}
-use Rattle.store_records.specs.declared.kept_record.Record.TheVariants.{Named, Granted, Handed, Marked, Introduced, Visited, Delivered}
+use Rattle.store_records.specs.declared.kept_record.Record.TheVariants.{Named, Granted, Handed, Closed, Marked, Introduced, Visited}
+use Rattle.store_records.specs.declared.kept_record.Record.TheVariants.{Delivered}
 use Rattle.guests.specs.declared.guest.Guest.{Guest}
 use Rattle.named_revisions.specs.declared.named_revision.NamedRevision.{NamedRevision}
 use Rattle.wire_json.specs.Forms.{text_data}
@@ -62,6 +63,10 @@ record_has_no_float at false (Granted (Author name) given) = refl
 record_has_no_float at false (Granted Everyone given) = refl
 record_has_no_float at true (Handed author) = refl
 record_has_no_float at false (Handed author) = refl
+record_has_no_float at true (Closed true) = refl
+record_has_no_float at true (Closed false) = refl
+record_has_no_float at false (Closed true) = refl
+record_has_no_float at false (Closed false) = refl
 record_has_no_float at true (Marked named) = refl
 record_has_no_float at false (Marked named) = refl
 record_has_no_float at true (Introduced guest) = refl
@@ -84,6 +89,10 @@ record_is_shallow at false (Granted (Author name) given) = lit≤ tt
 record_is_shallow at false (Granted Everyone given) = lit≤ tt
 record_is_shallow at true (Handed author) = lit≤ tt
 record_is_shallow at false (Handed author) = lit≤ tt
+record_is_shallow at true (Closed true) = lit≤ tt
+record_is_shallow at true (Closed false) = lit≤ tt
+record_is_shallow at false (Closed true) = lit≤ tt
+record_is_shallow at false (Closed false) = lit≤ tt
 record_is_shallow at true (Marked named) = lit≤ tt
 record_is_shallow at false (Marked named) = lit≤ tt
 record_is_shallow at true (Introduced guest) = lit≤ tt
@@ -151,6 +160,10 @@ record_again at false (Named name owner false) h = refl
 record_again at together (Granted grantee given) h = granted_again at together grantee given
 record_again at true (Handed author) h = refl
 record_again at false (Handed author) h = refl
+record_again at true (Closed true) h = refl
+record_again at true (Closed false) h = refl
+record_again at false (Closed true) h = refl
+record_again at false (Closed false) h = refl
 record_again now true (Marked named) (scalars, small) = marked_again named scalars small
 record_again now false (Marked named) (scalars, small) = marked_again named scalars small
 record_again now true (Introduced guest) scalars = introduced_again guest scalars

@@ -9,7 +9,8 @@ use Rattle.pad_model.specs.Checked.{is_checked}
 use Rattle.rights.specs.declared.grantee.Grantee.TheVariants.{Author, Everyone}
 use Rattle.rights.specs.declared.right.Right.{Right}
 use Rattle.store_records.specs.declared.kept_record.Record.{Record}
-use Rattle.store_records.specs.declared.kept_record.Record.TheVariants.{Named, Granted, Handed, Marked, Introduced, Visited, Delivered}
+use Rattle.store_records.specs.declared.kept_record.Record.TheVariants.{Named, Granted, Handed, Closed, Marked, Introduced, Visited}
+use Rattle.store_records.specs.declared.kept_record.Record.TheVariants.{Delivered}
 use Rattle.wire_json.specs.Forms.{Field, fields_data, number_data, text_data}
 use Rattle.wire_json.specs.Laws.{IsSayable}
 use Rattle.wire_json.specs.Operations.{op_data}
@@ -33,6 +34,8 @@ record_fields (Granted (Author name) right) = (codes "author", string name) ∷ 
 record_fields (Granted Everyone right) = (codes "kind", string (codes "everyone"))
     ∷ (codes "right", string (given_word right)) ∷ []
 record_fields (Handed author) = (codes "kind", string (codes "handed")) ∷ (codes "owner", string author) ∷ []
+record_fields (Closed true) = (codes "kind", string (codes "closed")) ∷ []
+record_fields (Closed false) = (codes "kind", string (codes "reopened")) ∷ []
 record_fields (Marked named) = (codes "author", string named.author) ∷ (codes "kind", string (codes "marked"))
     ∷ (codes "ms", number_data (named.at % 1000)) ∷ (codes "rev", number_data named.rev)
     ∷ (codes "text", text_data named.text) ∷ []
@@ -53,6 +56,7 @@ abbrev pub seconds_of : ℕ → Record → ℕ
 seconds_of now (Named name owner visits) = now
 seconds_of now (Granted grantee right) = now
 seconds_of now (Handed author) = now
+seconds_of now (Closed closed) = now
 seconds_of now (Marked named) = named.at / 1000
 seconds_of now (Introduced guest) = now
 seconds_of now (Visited author) = now
@@ -68,6 +72,7 @@ abbrev pub IsSayableRecord : Record → Type 0
 IsSayableRecord (Named name owner visits) = Unit {0}
 IsSayableRecord (Granted grantee right) = Unit {0}
 IsSayableRecord (Handed author) = Unit {0}
+IsSayableRecord (Closed closed) = Unit {0}
 IsSayableRecord (Marked named) = (all_scalars named.text ≡ true) × (named.at < 2 ^ 64)
 IsSayableRecord (Introduced guest) = all_scalars guest.display ≡ true
 IsSayableRecord (Visited author) = Unit {0}
@@ -108,6 +113,8 @@ record_of kind d =
     else if bytes_eq kind (codes "everyone") then option_map (Granted Everyone)
     (option_and_then granted_by (text_in (codes "right") d))
     else if bytes_eq kind (codes "handed") then option_map Handed (text_in (codes "owner") d)
+    else if bytes_eq kind (codes "closed") then Some (Closed true)
+    else if bytes_eq kind (codes "reopened") then Some (Closed false)
     else if bytes_eq kind (codes "marked") then of_three (marked_at (time_in d)) (text_in (codes "author") d)
     (field number_in (codes "rev") d) (field characters_in (codes "text") d)
     else if bytes_eq kind (codes "introduced") then of_two introduced_as (text_in (codes "author") d)

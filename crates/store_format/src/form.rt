@@ -5,7 +5,7 @@ ghost use Rattle.wire_json.specs.Forms.{with_fields};
 ghost use Rattle.wire_json.specs.Operations.{op_data};
 ghost use Rattle.wire_json.specs.Reading.{IsRead};
 ghost use Rattle.rights.specs.declared.grantee.Grantee.TheVariants.{Author, Everyone};
-ghost use Rattle.store_records.specs.declared.kept_record.Record.TheVariants.{Delivered, Granted, Introduced, Marked, Named, Visited};
+ghost use Rattle.store_records.specs.declared.kept_record.Record.TheVariants.{Closed, Delivered, Granted, Introduced, Marked, Named, Visited};
 ghost use Rattle.store_format.specs.Forms.{record_data, record_fields, record_in, record_of};
 ghost use Rattle.store_format.specs.Forms as forms;
 
@@ -51,6 +51,7 @@ fn seconds_of(now: u64, kept: &Record) -> u64
         Record::Named { .. }
         | Record::Granted { .. }
         | Record::Handed { .. }
+        | Record::Closed { .. }
         | Record::Introduced { .. }
         | Record::Visited { .. } => now,
     }
@@ -78,6 +79,7 @@ fn put_record(
             put(fields, alloc, "kind", Value::try_from_str(alloc, "handed")?)?;
             put(fields, alloc, "owner", name_value(alloc, author)?)
         }
+        Record::Closed { closed } => put_closed(alloc, fields, *closed),
         Record::Marked { named } => put_marked(alloc, fields, named),
         Record::Introduced { guest } => put_introduced(alloc, fields, guest),
         Record::Visited { author } => put_visited(alloc, fields, author),
@@ -148,6 +150,18 @@ fn put_everyone(
         "right",
         Value::try_from_str(alloc, given_word(right))?,
     )
+}
+
+fn put_closed(
+    alloc: Global,
+    fields: &mut Map<String, Value>,
+    closed: bool,
+) -> Result<(), AllocError>
+    ensures { OnOk result (members_view fields.new.entries
+        ≡ with_fields (record_fields (Closed closed)) (members_view fields.old.entries)) }
+{
+    let kind = if closed { "closed" } else { "reopened" };
+    put(fields, alloc, "kind", Value::try_from_str(alloc, kind)?)
 }
 
 fn put_marked(
@@ -257,6 +271,8 @@ fn read_kind(alloc: Global, kind: &str, value: &Value) -> Result<Record, Refusal
         "granted" => read_granted(alloc, value),
         "everyone" => read_everyone(value),
         "handed" => read_handed(alloc, value),
+        "closed" => Ok(Record::Closed { closed: true }),
+        "reopened" => Ok(Record::Closed { closed: false }),
         "marked" => read_marked(alloc, value),
         "introduced" => read_introduced(alloc, value),
         "visited" => read_visited(alloc, value),

@@ -1,5 +1,5 @@
 -- The records of an act lead from the restarted pad before it to the restarted pad after it.
-use Rattle.std.proofs.Common.{◌≡◌, ◌⊎◌, inl, inr, ℕ, ◌+◌, true, List, [], ◌∷◌, ◌++◌}
+use Rattle.std.proofs.Common.{◌≡◌, ◌⊎◌, inl, inr, ℕ, ◌+◌, Bool, true, false, List, [], ◌∷◌, ◌++◌}
 use Rattle.std.proofs.Common.{length, map, Option, Some, None, Result, Ok, Err, bytes_eq, nat_le}
 use Rattle.std.proofs.Common.{ltb, refl, sym, ap, ◌∙◌, subst, not, option_map}
 use Rattle.std.specs.List.{last_or}
@@ -20,11 +20,13 @@ use Rattle.op_log.specs.Made.{Made}
 use Rattle.op_log.specs.Makers.{made_in}
 use Rattle.presence.specs.Presence.{Presence, join_refusal, joined, rejoin_refusal, spent_refusal, was_given, with_caret}
 use Rattle.presence.specs.Presence.{without}
+use Rattle.pad_core.specs.Closing.{is_closed, set_closed}
 use Rattle.pad_core.specs.Counts.{characters_at}
 use Rattle.pad_core.specs.Delivered.{IsDelivered}
 use Rattle.pad_core.specs.Edits.{before_place}
 use Rattle.pad_core.specs.Grants.{grant as granted, hand as handed, told_done}
-use Rattle.pad_core.specs.Machine.{Machine, author_act, now_of, peer_act}
+use Rattle.pad_core.specs.Machine.{Machine, Outcome, applied, author_act, now_of, on_delivery, peer_act}
+use Rattle.pad_core.specs.Exchange.{push}
 use Rattle.pad_core.specs.Presence.{join, put_caret, rejoin}
 use Rattle.pad_core.specs.Restart.{restarted, restore_grant, restore_hand, visited}
 use Rattle.pad_core.specs.declared.act.Act.{Act}
@@ -204,6 +206,26 @@ hands owned asker author m is named =
         ≡ Ok (bare (Some (record owned { rights = new })) m.replica m.presence.limit m.log (given_on m.presence) m.made)) (sym is)
         (hand_again owned m.replica m.presence.limit m.log (given_on m.presence) m.made author new named (q ∙ same)))
 
+closed_again : (owned : Owned) (closed : Bool) (m : Machine) → m.owned ≡ Some owned →
+    replay_all (kept.Closed closed ∷ []) (bare m.owned m.replica m.presence.limit m.log (given_on m.presence) m.made)
+    ≡ Ok (bare (Some (record owned { closed = closed })) m.replica m.presence.limit m.log (given_on m.presence) m.made)
+closed_again owned closed m is =
+    subst (λ (o : Option Owned). replay_all (kept.Closed closed ∷ [])
+    (bare o m.replica m.presence.limit m.log (given_on m.presence) m.made)
+    ≡ Ok (bare (Some (record owned { closed = closed })) m.replica m.presence.limit m.log (given_on m.presence) m.made))
+    (sym is) refl
+
+-- a pad that was closed, or opened again
+closes : (owned : Owned) (name : List ℕ) (closed : Bool) (m : Machine) → m.owned ≡ Some owned →
+    Leads (act_records (who.Author name) (act.SetClosed closed)) m
+    (passed_on (set_closed (now_of m) closed owned.rights m.presence).0)
+    (record m {
+      owned = Some (record owned { closed = closed });
+      presence = (set_closed (now_of m) closed owned.rights m.presence).1.1;
+    })
+closes owned name true m is more grown d = closed_again owned true m is
+closes owned name false m is more grown d = closed_again owned false m is
+
 -- the operations alone lead from a pad to another
 abbrev Moves : Machine → Machine → Type 0
 Moves old after = (more : List Op) → after.log ≡ old.log ++ more → IsDelivered after.log →
@@ -260,6 +282,7 @@ author_leads owned name visit (act.Grant grantee right) m is can named good =
     gives owned name grantee right m is (can grantee right refl)
 author_leads owned name visit (act.Hand author) m is can named good =
     hands owned name author m is (named author refl)
+author_leads owned name visit (act.SetClosed closed) m is can named good = closes owned name closed m is
 author_leads owned name visit (act.Mark rev text) m is can named good =
     marks owned name rev text m is good
 author_leads owned name visit (act.Introduce display) m is can named good =
@@ -298,6 +321,16 @@ elsewhere (who.Author name) (act.Introduce display) m = λ more grown d. refl
 elsewhere (who.Peer number version) (act.Introduce display) m = λ more grown d. refl
 elsewhere w other m = same m
 
+-- an operation that a peer pushes, which a closed pad refuses
+pushes : (number : ℕ) (version : Version) (op : Op) (m : Machine) →
+    Leads (act_records (who.Peer number version) (act.Push op)) m (passed_on (peer_act version (act.Push op) m).0)
+    (peer_act version (act.Push op) m).1
+pushes number version op m =
+    either (λ (come : Outcome). Leads (act_records (who.Peer number version) (act.Push op)) m
+    (passed_on (applied m.owned come m).0) (applied m.owned come m).1) (is_closed m.owned) _ _ (same m)
+    (λ more grown d. quiet 0 m (on_delivery m (push m.replica op (m.log, m.held))).1 more refl refl refl refl refl
+    grown d)
+
 -- a peer's act
 pub peer_leads : (number : ℕ) (version : Version) (this : Act) (m : Machine) →
     Leads (act_records (who.Peer number version) this) m (passed_on (peer_act version this m).0) (peer_act version this m).1
@@ -305,6 +338,5 @@ peer_leads number version act.Join m = λ more grown d. refl
 peer_leads number version (act.Rejoin old) m = λ more grown d. refl
 peer_leads number version (act.Mark rev text) m = λ more grown d. refl
 peer_leads number version (act.Introduce display) m = λ more grown d. refl
-peer_leads number version (act.Push op) m = λ more grown d. quiet 0 m (peer_act version (act.Push op) m).1 more refl refl refl
-    refl refl grown d
+peer_leads number version (act.Push op) m = pushes number version op m
 peer_leads number version other m = same m

@@ -75,6 +75,7 @@ few_of_act w act.Join at visit answer more = inl (few_of_visit w answer)
 few_of_act w (act.Rejoin old) at visit answer more = inl (few_of_visit w answer)
 few_of_act w (act.Grant grantee right) at visit (Ok (Some reply)) more = inl (omega arith)
 few_of_act w (act.Hand author) at visit (Ok (Some reply)) more = inl (omega arith)
+few_of_act w (act.SetClosed closed) at visit (Ok (Some reply)) more = inl (omega arith)
 few_of_act w (act.Mark rev text) at visit answer more = inl (few_of_mark w rev text at answer)
 few_of_act w (act.Introduce display) at visit answer more = inl (few_of_introduction w display answer)
 few_of_act w other at visit answer more = inr refl

@@ -62,20 +62,20 @@ session_stays : (owned : Owned) (w : Who) (visit : Option ℕ) (this : Act) (m :
     Stays this m.log (session_step owned w visit this m).1.log
 session_stays owned who.Nobody visit this m = inl refl
 session_stays owned (who.Peer number version) visit this m = peer_stays version this m
-session_stays owned (who.Author name) visit this m = at (author_refusal owned.rights m.presence name visit this) refl
+session_stays owned (who.Author name) visit this m = at (author_refusal owned m.presence name visit this) refl
   where
-    refused : (e : Refusal) → author_refusal owned.rights m.presence name visit this ≡ Some e →
+    refused : (e : Refusal) → author_refusal owned m.presence name visit this ≡ Some e →
         author_step owned name visit this m ≡ (Err e, m)
     refused e q = rw q refl
 
-    allowed : author_refusal owned.rights m.presence name visit this ≡ None → author_step owned name visit this m
+    allowed : author_refusal owned m.presence name visit this ≡ None → author_step owned name visit this m
         ≡ author_act owned name (unwrap_or visit 0) this m
     allowed q = rw q refl
 
     Goal : Result PadReply Refusal × Machine → Type 0
     Goal done = Stays this m.log done.1.log
 
-    at : (r : Option Refusal) → author_refusal owned.rights m.presence name visit this ≡ r →
+    at : (r : Option Refusal) → author_refusal owned m.presence name visit this ≡ r →
         Goal (author_step owned name visit this m)
     at (Some e) q = subst Goal (sym (refused e q)) (inl refl)
     at None q = subst Goal (sym (allowed q)) (author_stays owned name (unwrap_or visit 0) this m)
@@ -95,6 +95,7 @@ without w act.Join at visit answer = inr refl
 without w (act.Rejoin old) at visit answer = inr refl
 without w (act.Grant grantee right) at visit answer = inr refl
 without w (act.Hand author) at visit answer = inr refl
+without w (act.SetClosed closed) at visit answer = inr refl
 without w (act.Mark rev text) at visit answer = inr refl
 without w (act.Introduce display) at visit answer = inr refl
 without w other at visit answer = inl refl
@@ -130,7 +131,7 @@ idle w (request.On name this) rooms cell old answer new after more (inl is) grow
 idle w (request.On name this) rooms cell old answer new after more (inr (told, stays, inl (same, why))) grown =
     act_idle w this (now_at old) (visit_at after) answer old.log after.log more (inl (ap (λ (m : Machine). m.log) same)) grown
 idle w (request.On name this) rooms cell old answer new after more
-    (inr (told, stays, inr (there, what, on, (peer, here, op, is, stopped, whole)))) grown =
+    (inr (told, stays, inr (there, what, on, (peer, here, op, is, stopped, whole, unshut)))) grown =
     inr (subst (λ (r : Request). may_leave r ≡ true) (sym (on ∙ ap (λ a. request.On there a) is)) refl)
 
 -- a request that may leave no records leaves none

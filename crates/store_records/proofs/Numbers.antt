@@ -22,7 +22,8 @@ use Rattle.pad_core.specs.declared.owned.Owned.{Owned}
 use Rattle.store_records.specs.Laws.{restarted_by}
 use Rattle.store_records.specs.Records.{rebuilt, replay, replay_all, replayed, unless_refused}
 use Rattle.store_records.specs.declared.kept_record.Record.{Record}
-use Rattle.store_records.specs.declared.kept_record.Record.TheVariants.{Named, Granted, Handed, Marked, Introduced, Visited, Delivered}
+use Rattle.store_records.specs.declared.kept_record.Record.TheVariants.{Named, Granted, Handed, Closed, Marked, Introduced, Visited}
+use Rattle.store_records.specs.declared.kept_record.Record.TheVariants.{Delivered}
 use Rattle.store_records.proofs.Deliveries.{Given, bare, one_given}
 
 -- who is present on a restarted pad: nobody
@@ -119,6 +120,9 @@ goes (Granted grantee right) None log given made = (Err NoPad, None, log, given,
 goes (Granted grantee right) (Some owned) log given made = grants grantee right owned log given made (can_have grantee right) refl
 goes (Handed author) None log given made = (Err NoPad, None, log, given, made, λ replica limit. refl)
 goes (Handed author) (Some owned) log given made = hands author owned log given made (is_name author) refl
+goes (Closed closed) None log given made = (Err NoPad, None, log, given, made, λ replica limit. refl)
+goes (Closed closed) (Some owned) log given made =
+    (Ok tt, Some (record owned { closed = closed }), log, given, made, λ replica limit. refl)
 goes (Marked this) None log given made = (Err NoPad, None, log, given, made, λ replica limit. refl)
 goes (Marked this) (Some owned) log given made = marks this owned log given made (is_name this.author) refl
 goes (Introduced this) None log given made = (Err NoPad, None, log, given, made, λ replica limit. refl)

@@ -56,29 +56,29 @@ session_leads : (owned : Owned) (w : Who) (visit : Option ℕ) (this : Act) (m :
     IsNamed w → Leads (act_records w this) m (passed_on (session_step owned w visit this m).0) (session_step owned w visit this m).1
 session_leads owned who.Nobody visit this m is known = idle who.Nobody this (nobody_refusal (need_of this)) m
 session_leads owned (who.Peer number version) visit this m is known = peer_leads number version this m
-session_leads owned (who.Author name) visit this m is known = at (author_refusal owned.rights m.presence name visit this) refl
+session_leads owned (who.Author name) visit this m is known = at (author_refusal owned m.presence name visit this) refl
   where
     Goal : Result PadReply Refusal × Machine → Type 0
     Goal done = Leads (act_records (who.Author name) this) m (passed_on done.0) done.1
 
-    refused : (e : Refusal) → author_refusal owned.rights m.presence name visit this ≡ Some e →
+    refused : (e : Refusal) → author_refusal owned m.presence name visit this ≡ Some e →
         author_step owned name visit this m ≡ (Err e, m)
     refused e q = rw q refl
 
-    allowed : author_refusal owned.rights m.presence name visit this ≡ None → author_step owned name visit this m
+    allowed : author_refusal owned m.presence name visit this ≡ None → author_step owned name visit this m
         ≡ author_act owned name (unwrap_or visit 0) this m
     allowed q = rw q refl
 
-    at : (r : Option Refusal) → author_refusal owned.rights m.presence name visit this ≡ r →
+    at : (r : Option Refusal) → author_refusal owned m.presence name visit this ≡ r →
         Goal (author_step owned name visit this m)
     at (Some e) q = subst Goal (sym (refused e q)) (idle (who.Author name) this e m)
     at None q =
         subst Goal (sym (allowed q))
         (author_leads owned name (unwrap_or visit 0) this m is
         (λ grantee right grants. admitted_grant (Some owned) m.presence name visit grantee right
-        (subst (λ a. author_refusal owned.rights m.presence name visit a ≡ None) grants q))
+        (subst (λ a. author_refusal owned m.presence name visit a ≡ None) grants q))
         (λ author hands_it. admitted_hand (Some owned) m.presence name visit author
-        (subst (λ a. author_refusal owned.rights m.presence name visit a ≡ None) hands_it q))
+        (subst (λ a. author_refusal owned m.presence name visit a ≡ None) hands_it q))
         known)
 
 step_leads : (name : List ℕ) (w : Who) (visit : Option ℕ) (this : Act) (o : Option Owned) (replica : ℕ)
@@ -178,7 +178,7 @@ request_again w this cell rooms old answer new after more l = at l.visited more 
     at (inr (told, stays, inl (same_pad, why))) =
         subst (λ (a : Answer). Leads (records_of w this) old a after) (sym told)
         (subst (λ (x : Machine). Leads (records_of w this) old (Err Memory) x) (sym same_pad) (unread w this old))
-    at (inr (told, stays, inr (name, what, on, (peer, there, op, is, stopped, whole)))) =
+    at (inr (told, stays, inr (name, what, on, (peer, there, op, is, stopped, whole, unshut)))) =
         subst (λ (a : Answer). Leads (records_of w this) old a after) (sym told)
         (subst (λ (r : Request). Leads (records_of w r) old (Err Memory) after)
         (sym (on ∙ ap (λ a. request.On name a) is)) (cut w name op old after whole))
@@ -191,9 +191,9 @@ leave_again name w visit m = at m.owned m.replica m.log m.held m.presence m.cloc
     author_at : (owned : Owned) (author : List ℕ) (replica : ℕ) (log held : List Op) (p : Presence) (clock : ℕ) (made : Made) →
         restarted (author_step owned author (Some visit) act.Leave (machine (Some owned) replica log held p clock made)).1
         ≡ bare (Some owned) replica p.limit log (given_on p) made
-    author_at owned author replica log held p clock made = case (author_refusal owned.rights p author (Some visit) act.Leave) refl
+    author_at owned author replica log held p clock made = case (author_refusal owned p author (Some visit) act.Leave) refl
       where
-        case : (r : Option Refusal) → author_refusal owned.rights p author (Some visit) act.Leave ≡ r →
+        case : (r : Option Refusal) → author_refusal owned p author (Some visit) act.Leave ≡ r →
             restarted (author_step owned author (Some visit) act.Leave (machine (Some owned) replica log held p clock made)).1
             ≡ bare (Some owned) replica p.limit log (given_on p) made
         case (Some e) is = rw is refl

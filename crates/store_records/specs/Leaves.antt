@@ -5,13 +5,14 @@ use Rattle.pad_core.specs.declared.act.Act.TheVariants as act
 use Rattle.pad_core.specs.declared.request.Request.{Request}
 use Rattle.pad_core.specs.declared.request.Request.TheVariants as request
 
--- an act may leave records: it counts a visit, changes a right or the owner, names a revision or a guest, or makes or
+-- an act may leave records: it counts a visit, changes a right or the owner, closes the pad or opens it again, names a revision or a guest, or makes or
 -- takes an operation
 abbrev pub is_kept : Act → Bool
 is_kept act.Join = true
 is_kept (act.Rejoin old) = true
 is_kept (act.Grant grantee right) = true
 is_kept (act.Hand author) = true
+is_kept (act.SetClosed closed) = true
 is_kept (act.Mark rev text) = true
 is_kept (act.Introduce display) = true
 is_kept (act.Insert rev at text) = true

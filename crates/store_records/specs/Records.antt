@@ -6,21 +6,22 @@ use Rattle.pad_model.specs.declared.refusal.Refusal.{Refusal}
 use Rattle.pad_model.specs.declared.who.Who.{Who}
 use Rattle.pad_model.specs.declared.who.Who.TheVariants.{Author}
 use Rattle.pad_core.specs.Machine.{Machine, nobody_present}
-use Rattle.pad_core.specs.Restart.{restore_claim, restore_grant, restore_hand, restore_introduction, restore_mark, restore_operation}
-use Rattle.pad_core.specs.Restart.{restore_visit}
+use Rattle.pad_core.specs.Restart.{restore_claim, restore_closed, restore_grant, restore_hand, restore_introduction}
+use Rattle.pad_core.specs.Restart.{restore_mark, restore_operation, restore_visit}
 use Rattle.pad_core.specs.declared.act.Act.{Act}
 use Rattle.pad_core.specs.declared.act.Act.TheVariants as act
 use Rattle.pad_core.specs.declared.reply.Reply.{Reply}
 use Rattle.pad_core.specs.declared.request.Request.{Request}
 use Rattle.pad_core.specs.declared.request.Request.TheVariants as request
 use Rattle.store_records.specs.declared.kept_record.Record.{Record}
-use Rattle.store_records.specs.declared.kept_record.Record.TheVariants.{Named, Granted, Handed, Marked, Introduced, Visited, Delivered}
+use Rattle.store_records.specs.declared.kept_record.Record.TheVariants.{Named, Granted, Handed, Closed, Marked, Introduced, Visited, Delivered}
 
 -- a record is applied to a pad
 abbrev pub replay : Record → Machine → Result (Unit {0}) Refusal × Machine
 replay (Named name owner visits) m = restore_claim name owner visits m
 replay (Granted grantee right) m = restore_grant grantee right m
 replay (Handed author) m = restore_hand author m
+replay (Closed closed) m = restore_closed closed m
 replay (Marked named) m = restore_mark named m
 replay (Introduced guest) m = restore_introduction guest m
 replay (Visited author) m = restore_visit author m
@@ -88,13 +89,14 @@ abbrev pub visit_records : Who → Answer → List Record
 visit_records (Author author) (Ok (Some reply)) = Visited (Some author) ∷ []
 visit_records who answer = []
 
--- the records of an act: a visit after a join, a right after a grant, an owner after a hand-over, a name of a revision or
--- of a guest, and otherwise the operations that were delivered, at the time and in the visit that they had
+-- the records of an act: a visit after a join, a right after a grant, an owner after a hand-over, that a pad was closed or
+-- opened again, a name of a revision or of a guest, and otherwise the operations that were delivered, at the time and in the visit that they had
 abbrev pub act_records : Who → Act → ℕ → ℕ → Answer → List Op → List Record
 act_records who act.Join at visit answer more = visit_records who answer
 act_records who (act.Rejoin old) at visit answer more = visit_records who answer
 act_records who (act.Grant grantee right) at visit (Ok (Some reply)) more = Granted grantee right ∷ []
 act_records who (act.Hand author) at visit (Ok (Some reply)) more = Handed author ∷ []
+act_records who (act.SetClosed closed) at visit (Ok (Some reply)) more = Closed closed ∷ []
 act_records who (act.Mark rev text) at visit answer more = mark_records who rev text at answer
 act_records who (act.Introduce display) at visit answer more = introduction_records who display answer
 act_records who other at visit answer more = map (Delivered at visit) more

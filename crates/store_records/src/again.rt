@@ -21,6 +21,7 @@ pub fn replay<S: Sequence>(alloc: Global, pad: &mut Pad<S>, kept: Record) -> Res
         } => pad.restore_claim(alloc, &name, &owner, visits),
         Record::Granted { grantee, right } => pad.restore_grant(&grantee, right),
         Record::Handed { author } => pad.restore_hand(&author),
+        Record::Closed { closed } => pad.restore_closed(closed),
         Record::Marked { named } => pad.restore_mark(&named),
         Record::Introduced { guest } => pad.restore_introduction(&guest),
         Record::Visited { author } => pad.restore_visit(alloc, author.as_ref()),

@@ -23,6 +23,10 @@ pub enum Record {
     Handed {
         author: Name,
     },
+    /// The pad was closed, or opened again.
+    Closed {
+        closed: bool,
+    },
     /// A revision was given a name.
     Marked {
         named: NamedRevision,

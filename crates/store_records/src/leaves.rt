@@ -26,6 +26,7 @@ fn is_kept(act: &Act) -> bool
         | Act::Rejoin { .. }
         | Act::Grant { .. }
         | Act::Hand { .. }
+        | Act::SetClosed { .. }
         | Act::Mark { .. }
         | Act::Introduce { .. }
         | Act::Insert { .. }

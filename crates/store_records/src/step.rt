@@ -79,6 +79,7 @@ fn records_of_act(
                 author: author.clone()?,
             },
         ),
+        (Act::SetClosed { closed }, Ok(Some(_))) => one(alloc, Record::Closed { closed: *closed }),
         (Act::Mark { rev, text }, _) => records_of_mark(alloc, who, *rev, text, at, answer),
         (Act::Introduce { display }, _) => records_of_introduction(alloc, who, display, answer),
         _ => delivered(alloc, at, visit, more),

@@ -1,6 +1,6 @@
 -- Written values are plain: they hold no float, so their text is known, and they are nested only a few levels deep, so
 -- they can be read.
-use Rattle.std.proofs.Common.{◌≡◌, ℕ, ◌≤◌, List, [], ◌∷◌, map, false, Option, Some, None, Result, Ok, Err, refl, arith}
+use Rattle.std.proofs.Common.{◌≡◌, ℕ, ◌≤◌, List, [], ◌∷◌, map, Bool, true, false, Option, Some, None, Result, Ok, Err, refl, arith}
 use Rattle.std.proofs.Common.{lit≤}
 use Rattle.serde_json.specs.Data.{Data, depth, items_depth}
 use Rattle.serde_json.specs.View.{items_of}
@@ -16,6 +16,7 @@ use Rattle.pad_model.specs.declared.op.Part.{Part}
 use Rattle.pad_model.specs.declared.op.Part.TheVariants as part
 use Rattle.pad_model.specs.declared.seen.Counted.{Counted}
 use Rattle.pad_model.specs.declared.who.Version.TheVariants as version
+use Rattle.pad_core.specs.declared.reply.Listed.{Listed}
 use Rattle.pad_core.specs.declared.reply.LogEntry.{LogEntry}
 use Rattle.pad_core.specs.declared.reply.PadReply.{PadReply}
 use Rattle.pad_core.specs.declared.reply.PadReply.TheVariants as pad
@@ -104,6 +105,10 @@ entry_of : (entry : LogEntry) (at : Option ℕ) → IsPlain 2 (entry_data (recor
 entry_of entry None = record { floatless = refl; shallow = lit≤ tt }
 entry_of entry (Some at) = record { floatless = refl; shallow = lit≤ tt }
 
+listed_of : (pad : Listed) (closed : Bool) → IsPlain 1 (listed_data (record pad { closed = closed }))
+listed_of pad false = record { floatless = refl; shallow = lit≤ tt }
+listed_of pad true = record { floatless = refl; shallow = lit≤ tt }
+
 -- a pad's reply: one with a list needs a line of its own, any other one is plain by computation
 pad_of : (said : PadReply) → IsPlain 7 (pad_data said)
 pad_of (pad.Runs now rev runs) =
@@ -127,7 +132,10 @@ pad_of (pad.RevsAt now revs) =
 pad_of (pad.Who now who) =
     let all = each_of present_data 1 (λ present. record { floatless = refl; shallow = lit≤ tt }) who in
     record { floatless = rw all.floatless refl; shallow = omega (arith, all.shallow) }
-pad_of (pad.Rights now rights) =
+pad_of (pad.Rights now false rights) =
+    let all = each_of grant_data 1 (λ grant. record { floatless = refl; shallow = lit≤ tt }) rights in
+    record { floatless = rw all.floatless refl; shallow = omega (arith, all.shallow) }
+pad_of (pad.Rights now true rights) =
     let all = each_of grant_data 1 (λ grant. record { floatless = refl; shallow = lit≤ tt }) rights in
     record { floatless = rw all.floatless refl; shallow = omega (arith, all.shallow) }
 pad_of (pad.Marks now marks) =
@@ -151,7 +159,7 @@ reply_of (reply.Peer replica version.One) = record { floatless = refl; shallow =
 reply_of (reply.Peer replica version.Two) = record { floatless = refl; shallow = lit≤ tt }
 reply_of (reply.Pad said) = pad_of said
 reply_of (reply.Pads pads) =
-    let all = each_of listed_data 1 (λ pad. record { floatless = refl; shallow = lit≤ tt }) pads in
+    let all = each_of listed_data 1 (λ pad. listed_of pad pad.closed) pads in
     record { floatless = rw all.floatless refl; shallow = omega (arith, all.shallow) }
 reply_of (reply.People people) =
     let all = each_of person_data 1 (λ person. record { floatless = refl; shallow = lit≤ tt }) people in

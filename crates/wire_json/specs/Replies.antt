@@ -1,5 +1,5 @@
 -- How replies are written.
-use Rattle.std.specs.Prelude.{ℕ, List, [], ◌∷◌, ◌++◌, codes, true, false, Result, Ok, Err, ◌≡◌, ◌≤◌, Option, Some, None}
+use Rattle.std.specs.Prelude.{ℕ, Bool, List, [], ◌∷◌, ◌++◌, codes, true, false, Result, Ok, Err, ◌≡◌, ◌≤◌, Option, Some, None}
 use Rattle.std.specs.List.{AllByRecursion}
 use Rattle.serde_json.specs.Data.{Data, boolean, null, string}
 use Rattle.serde_json.specs.Read.{read}
@@ -82,10 +82,20 @@ abbrev pub guest_data : Guest → Data
 guest_data guest =
     fields_data ((codes "author", string guest.author) ∷ (codes "name", text_data guest.display) ∷ [])
 
--- a pad in a list of pads: its name, the right on it and its present revision
+-- that a pad is closed, where it is
+abbrev pub closed_fields : Bool → List Field
+closed_fields false = []
+closed_fields true = (codes "closed", boolean true) ∷ []
+
+-- the same in a list of pads
+abbrev pub closed_words : Bool → List Data
+closed_words false = []
+closed_words true = string (codes "closed") ∷ []
+
+-- a pad in a list of pads: its name, the right on it, its present revision, and that it is closed
 abbrev pub listed_data : Listed → Data
 listed_data pad = list_data (string pad.name ∷ string (right_word pad.right) ∷ number_data pad.now
-    ∷ [])
+    ∷ closed_words pad.closed)
 
 -- an author with a display name
 abbrev pub person_data : Person → Data
@@ -134,7 +144,8 @@ pad_data (pad.Birth now author rev at) =
     pad_answer now ((codes "at", number_data at) ∷ (codes "author", author_data author)
     ∷ (codes "rev", number_data rev) ∷ [])
 pad_data (pad.Who now who) = pad_answer now ((codes "who", each_data present_data who) ∷ [])
-pad_data (pad.Rights now rights) = pad_answer now ((codes "rights", each_data grant_data rights) ∷ [])
+pad_data (pad.Rights now closed rights) =
+    pad_answer now (closed_fields closed ++ (codes "rights", each_data grant_data rights) ∷ [])
 pad_data (pad.Marks now marks) = pad_answer now ((codes "marks", each_data mark_data marks) ∷ [])
 pad_data (pad.Guests now guests) = pad_answer now ((codes "guests", each_data guest_data guests) ∷ [])
 pad_data (pad.Vector now seen) = pad_answer now ((codes "seen", seen_data seen) ∷ [])

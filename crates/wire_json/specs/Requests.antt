@@ -145,6 +145,8 @@ act_of act_word.Invite d =
     of_two inviting (option_and_then linked (field name_in (codes "secret") d)) (field invited_in (codes "right") d)
 act_of act_word.Hand d = option_map act.Hand (field name_in (codes "author") d)
 act_of act_word.Rights d = Some act.Rights
+act_of act_word.Close d = Some (act.SetClosed true)
+act_of act_word.Reopen d = Some (act.SetClosed false)
 act_of act_word.Mark d = of_two act.Mark (field number_in (codes "rev") d) (field text_in (codes "text") d)
 act_of act_word.Marks d = Some act.Marks
 act_of act_word.Introduce d = option_and_then introducing (field text_in (codes "as") d)

@@ -93,6 +93,7 @@ act_words =
     ∷ (codes "entries", act_word.Entries) ∷ (codes "times", act_word.Times) ∷ (codes "birth", act_word.Birth)
     ∷ (codes "caret", act_word.Caret) ∷ (codes "who", act_word.Who) ∷ (codes "grant", act_word.Grant)
     ∷ (codes "invite", act_word.Invite) ∷ (codes "hand", act_word.Hand) ∷ (codes "rights", act_word.Rights)
+    ∷ (codes "close", act_word.Close) ∷ (codes "reopen", act_word.Reopen)
     ∷ (codes "mark", act_word.Mark)
     ∷ (codes "marks", act_word.Marks) ∷ (codes "introduce", act_word.Introduce)
     ∷ (codes "guests", act_word.Guests) ∷ (codes "vector", act_word.Vector) ∷ (codes "push", act_word.Push)

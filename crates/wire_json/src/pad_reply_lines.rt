@@ -90,8 +90,13 @@ pub fn pad_line(alloc: Global, reply: &PadReply) -> Result<String, AllocError>
             reply,
             who_value(alloc, *now, who.as_slice()),
         ),
-        PadReply::Rights { now, rights } => {
-            said_line(alloc, reply, rights_value(alloc, *now, rights.as_slice()))
+        PadReply::Rights {
+            now,
+            closed,
+            rights,
+        } => {
+            let value = rights_value(alloc, *now, *closed, rights.as_slice());
+            said_line(alloc, reply, value)
         }
         PadReply::Marks { now, marks } => {
             said_line(alloc, reply, marks_value(alloc, *now, marks.as_slice()))
@@ -228,10 +233,20 @@ fn who_value(alloc: Global, now: u64, who: &[Present]) -> Result<Value, AllocErr
     answer_with(alloc, now, "who", list_value(alloc, who)?)
 }
 
-fn rights_value(alloc: Global, now: u64, rights: &[Grant]) -> Result<Value, AllocError>
-    ensures { IfOk result (λ v. view v ≡ pad_data (PadReply.Rights now rights.now)) }
+fn rights_value(
+    alloc: Global,
+    now: u64,
+    closed: bool,
+    rights: &[Grant],
+) -> Result<Value, AllocError>
+    ensures { IfOk result (λ v. view v ≡ pad_data (PadReply.Rights now closed rights.now)) }
 {
-    answer_with(alloc, now, "rights", list_value(alloc, rights)?)
+    let rights = list_value(alloc, rights)?;
+    if closed {
+        json!(in alloc; {"closed": true, "now": now, "ok": true, "rights": rights})
+    } else {
+        json!(in alloc; {"now": now, "ok": true, "rights": rights})
+    }
 }
 
 fn marks_value(alloc: Global, now: u64, marks: &[NamedRevision]) -> Result<Value, AllocError>

@@ -311,6 +311,8 @@ pub fn read_act(alloc: Global, word: ActWord, value: &Value) -> Result<Act, Refu
         ActWord::Invite => read_invite(alloc, value),
         ActWord::Hand => read_hand(alloc, value),
         ActWord::Rights => Ok(Act::Rights),
+        ActWord::Close => Ok(Act::SetClosed { closed: true }),
+        ActWord::Reopen => Ok(Act::SetClosed { closed: false }),
         ActWord::Mark => read_mark(alloc, value),
         ActWord::Marks => Ok(Act::Marks),
         ActWord::Introduce => read_introduce(alloc, value),

@@ -194,7 +194,11 @@ impl ToJson for Listed {
         let name = name_value(alloc, &self.name)?;
         let right = right_word(self.right);
         let now = self.now;
-        json!(in alloc; [name, right, now])
+        if self.closed {
+            json!(in alloc; [name, right, now, "closed"])
+        } else {
+            json!(in alloc; [name, right, now])
+        }
     }
 }
 

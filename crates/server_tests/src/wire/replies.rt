@@ -165,7 +165,7 @@ const LISTS: &[(Sample, &str)] = &[
     (
         Sample::Pads,
         concat!(
-            r#"{"ok":true,"pads":[["minutes","own",7],["p","read",0]]}"#,
+            r#"{"ok":true,"pads":[["minutes","own",7],["p","read",0,"closed"]]}"#,
             "\n"
         ),
     ),
@@ -213,9 +213,16 @@ const LISTS: &[(Sample, &str)] = &[
         concat!(r#"{"now":2,"ok":true,"revs":[2]}"#, "\n"),
     ),
     (
-        Sample::Rights,
+        Sample::Rights { closed: false },
         concat!(
             r#"{"now":2,"ok":true,"rights":[["ann","own"],["*","read"],["bob","comment"]]}"#,
+            "\n"
+        ),
+    ),
+    (
+        Sample::Rights { closed: true },
+        concat!(
+            r#"{"closed":true,"now":2,"ok":true,"rights":[["ann","own"],["*","read"],["bob","comment"]]}"#,
             "\n"
         ),
     ),

@@ -189,6 +189,14 @@ const REQUESTS: &[(&str, &str)] = &[
         r#"On { pad: Name { text: "p" }, act: Rights }"#,
     ),
     (
+        r#"{"do":"close","pad":"p"}"#,
+        r#"On { pad: Name { text: "p" }, act: SetClosed { closed: true } }"#,
+    ),
+    (
+        r#"{"do":"reopen","pad":"p"}"#,
+        r#"On { pad: Name { text: "p" }, act: SetClosed { closed: false } }"#,
+    ),
+    (
         r#"{"do":"mark","pad":"p","rev":120,"text":"Ok"}"#,
         r#"On { pad: Name { text: "p" }, act: Mark { rev: 120, text: Text { characters: ['O', 'k'] } } }"#,
     ),

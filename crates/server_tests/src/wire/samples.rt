@@ -37,7 +37,8 @@ pub enum Sample {
     Birth,
     Times,
     RevsAt,
-    Rights,
+    /// Of a pad that is closed, or open.
+    Rights { closed: bool },
     Marks,
     Vector,
     Pulled,
@@ -72,7 +73,7 @@ fn pad_reply_of(alloc: Global, sample: Sample) -> Result<PadReply, Refusal> {
         Sample::Birth => birth_told(alloc),
         Sample::Times => times_told(alloc),
         Sample::RevsAt => revs_told(alloc),
-        Sample::Rights => rights_told(alloc),
+        Sample::Rights { closed } => rights_told(alloc, closed),
         Sample::Marks => marks_told(alloc),
         Sample::Vector => vector_told(alloc),
         Sample::Pulled => pulled_told(alloc),
@@ -237,9 +238,17 @@ fn revs_told(alloc: Global) -> Result<PadReply, Refusal> {
 
 fn pads_listed(alloc: Global) -> Result<Reply, Refusal> {
     let mut pads = Items::new(alloc);
-    for (name, right, now) in [("minutes", Right::Own, 7), ("p", Right::Read, 0)] {
+    for (name, right, now, closed) in [
+        ("minutes", Right::Own, 7, false),
+        ("p", Right::Read, 0, true),
+    ] {
         let name = Name::from_str(alloc, name)?;
-        pads.push(Listed { name, right, now })?;
+        pads.push(Listed {
+            name,
+            right,
+            now,
+            closed,
+        })?;
     }
     Ok(Reply::Pads { pads })
 }
@@ -277,7 +286,7 @@ fn grant(alloc: Global, name: &str, right: Right) -> Result<Grant, Refusal> {
     Ok(Grant { grantee, right })
 }
 
-fn rights_told(alloc: Global) -> Result<PadReply, Refusal> {
+fn rights_told(alloc: Global, closed: bool) -> Result<PadReply, Refusal> {
     let mut rights = Items::new(alloc);
     rights.push(grant(alloc, "ann", Right::Own)?)?;
     rights.push(Grant {
@@ -285,7 +294,11 @@ fn rights_told(alloc: Global) -> Result<PadReply, Refusal> {
         right: Right::Read,
     })?;
     rights.push(grant(alloc, "bob", Right::Comment)?)?;
-    Ok(PadReply::Rights { now: 2, rights })
+    Ok(PadReply::Rights {
+        now: 2,
+        closed,
+        rights,
+    })
 }
 
 fn named(alloc: Global, rev: u64, author: &str, text: &str) -> Result<NamedRevision, Refusal> {

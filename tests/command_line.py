@@ -82,7 +82,7 @@ CASES = [
         refused(f"replica {text or 'of no digits'}", f"--stdin --replica={text}", "--replica")
         for text in ["0", "65536", "70000", "-1", "1.0", "one", "0x1", "18446744073709551617", ""]
     ],
-    *[refused(f"cells {text}", f"--stdin --replica 1 --cells={text}", "--cells") for text in ["0", "4097", "-1", "two", "4294967297"]],
+    *[refused(f"cells {text}", f"--stdin --replica 1 --cells={text}", "--cells") for text in ["0", "131073", "-1", "two", "4294967297"]],
     *[refused(f"present {text}", f"--stdin --replica 1 --present={text}", "--present") for text in ["0", "1025", "-1", "two", "4294967297"]],
     *[Case(f"present {count}", f"--stdin --replica 1 --present {count}", CREATE, CREATED) for count in [1, 64, 1024]],
     Case("--workers, --clients and --connections change nothing with --stdin", "--stdin --replica 1 --workers 2 --clients 1 --connections 1", CREATE, CREATED),

@@ -11,6 +11,8 @@ from harness import Failed, Test, want
 from sockets import ACCOUNTS, Server
 
 MANY = 1_000
+HOUSE = 6_000  # the pads of a larger house
+MOST = 131_072  # the most that a server has room for
 
 
 def resident(server):
@@ -21,9 +23,9 @@ def resident(server):
 
 def cells_without_a_name_take_little():
     """Less than one and three quarters KiB each, with the seats of five threads."""
-    few, many = (Server(f"--cells {cells} --workers 4") for cells in (64, 4096))
+    few, many = (Server(f"--cells {cells} --workers 4") for cells in (64, MOST))
     time.sleep(0.5)
-    taken = (resident(many) - resident(few)) / (4096 - 64)
+    taken = (resident(many) - resident(few)) / (MOST - 64)
     if taken >= 1.75:
         raise Failed(f"{taken:.2f} KiB for each cell")
 
@@ -63,6 +65,13 @@ def a_thousand_pads_are_found():
     ann = create(server, MANY)
     want(ann.ask(do="create", pad="one-more")["code"], 302, "the code for a pad too many")
     has_all(server, MANY)
+
+
+def thousands_of_pads_are_found():
+    server = Server(f"--cells {MOST} --workers 3")
+    server.is_new = True
+    create(server, HOUSE)
+    has_all(server, HOUSE)
 
 
 def a_store_of_a_thousand_pads_is_read_again():
@@ -169,6 +178,7 @@ def operations(client):
 TESTS = [
     Test("many pads: cells without a name take little", cells_without_a_name_take_little, 30),
     Test("many pads: a thousand pads are found", a_thousand_pads_are_found, 60),
+    Test("many pads: thousands of pads are found", thousands_of_pads_are_found, 90),
     Test("many pads: a store of a thousand pads is read again", a_store_of_a_thousand_pads_is_read_again, 90),
     Test("many pads: a storm over a thousand pads", a_storm_over_a_thousand_pads, 120),
     Test("many pads: two servers exchange a thousand pads", two_servers_exchange_a_thousand_pads, 120),

@@ -3,7 +3,8 @@ import os
 import random
 
 from harness import Test, want
-from stores import kill, line_of, lines_of, refused, restarted, restarted_told
+from sockets import ACCOUNTS, Server
+from stores import STORE, kill, line_of, lines_of, refused, restarted, restarted_told
 
 
 def torn_line():
@@ -99,6 +100,42 @@ def damaged():
             want(file.read(), content, "the damaged file")
 
 
+PEERS = (("accounts", ACCOUNTS[0][1] + "peer 2 p2 127.0.0.1:1\n"),)
+PUSHED = {"author": "cyd", "kind": "insert", "name": [2, 1], "seen": [], "after": None, "first": [9, 2], "text": "x"}
+
+
+def written(texts):
+    """Writes the file of the pad p anew, of these texts, with the sums that they have then."""
+    before, content = b"", b""
+    for text in texts:
+        line = line_of(before, text)
+        before, content = line[-67:-3], content + line
+    with open("kept/p.pad", "wb") as file:
+        file.write(content)
+
+
+def before_its_causes():
+    """An edit that stands before one that its author had seen is told, though it is the next of its origin and fits the text."""
+    server = Server(STORE, accounts=PEERS)
+    ann, two = server.author("ann"), server.connect()
+    ann.does(do="create", pad="p")
+    two.does(do="peer", number=2, token="p2", version=2)
+    two.does(do="push", pad="p", op=PUSHED)
+    ann.does(do="insert", pad="p", rev=1, at=0, text="y")
+    kill(server)
+    texts = lines_of("p")
+    places = [place for place, text in enumerate(texts) if "op" in text]
+    want([texts[place]["op"]["name"] for place in places], [[2, 1], [1, 1]], "the edits, in the order in which they came")
+    written(texts)
+    server = restarted()
+    want(server.author("ann", "p").does(do="text", pad="p")["text"], "yx", "the text of the same lines")
+    kill(server)
+    first, second = (texts[place] for place in places)
+    first["op"], second["op"] = second["op"], first["op"]
+    written(texts)
+    refused(1, f"p.pad: line {places[0] + 1}:", "is damaged")
+
+
 def copied():
     """The file of a pad under another pad's name is told, and nothing is changed."""
     server = restarted()
@@ -138,5 +175,6 @@ TESTS = [
     Test("store: a front of the file", front_of_the_file, 60),
     Test("store: a file of several pieces", several_pieces, 60),
     Test("store: damage is told by file and line", damaged),
+    Test("store: an edit before its causes", before_its_causes),
     Test("store: a file under another name", copied),
 ]

@@ -8,6 +8,14 @@ import { WORDS } from "./words.js";
 export const TEMPLATE = /^template-./;
 // Of so many pads the last change is asked for.
 const MOST_ASKED = 100;
+// So many are shown at once: the last used here, or the first of those that a search finds.
+const MOST_SHOWN = 500;
+
+// The pads with these letters in their names, and how many there are.
+export function found(pads, letters) {
+  const all = pads.filter(({ name }) => name.includes(letters.toLowerCase()));
+  return { shown: all.slice(0, MOST_SHOWN), count: all.length };
+}
 
 export class PadList {
   // `onOpen` gets the name of a pad.
@@ -26,16 +34,17 @@ export class PadList {
   }
 
   get words() { return $("pads-search").value.trim(); }
-  get found() { return this.pads.filter(({ name }) => name.includes(this.words.toLowerCase())); }
 
   draw() {
-    const { found } = this, groups = [["own", found.filter(({ right }) => right === "own")], ["shared", found.filter(({ right }) => right !== "own")]];
+    const { shown, count } = found(this.pads, this.words);
+    const groups = [["own", shown.filter(({ right }) => right === "own")], ["shared", shown.filter(({ right }) => right !== "own")]];
     this.lines.clear();
     for (const [group, pads] of groups) {
       $(`pads-${group}`).hidden = !pads.length;
       $(`pads-${group}`).querySelector("ul").replaceChildren(...pads.map((pad) => this.row(pad)));
     }
-    say($("pads-found"), this.words ? WORDS.padsFound(found.length) : "");
+    const told = [this.words && WORDS.padsFound(count), shown.length < count && WORDS.padsShown(shown.length)];
+    say($("pads-found"), told.filter(Boolean).join(" · "));
   }
 
   row(pad) {

@@ -17,6 +17,7 @@ import { authorsIn, rightOf } from "../../clients/js/src/rights.js";
 import { Undo } from "../../clients/js/src/undo.js";
 import { count, deltaOf, partsOf, unit } from "../../clients/js/src/units.js";
 import { linkOf } from "../../web/log_in_link.js";
+import { found } from "../../web/pad_list.js";
 import { linesWith } from "../../web/pad_search.js";
 import { LABELS, LANGUAGES, REFUSALS, WORDS, speak, spoken } from "../../web/words.js";
 import { dice as makeDice } from "./dice.mjs";
@@ -29,6 +30,14 @@ function tell(name, have, want) {
   const [a, b] = [JSON.stringify(have), JSON.stringify(want)];
   if (a === b) passed++; else failed++;
   console.log(a === b ? `ok     ${name}` : `FAILED ${name}: ${a}, not ${b}`);
+}
+
+function padList() {
+  const listed = Array.from({ length: 1200 }, (_, number) => ({ name: `p${number}` }));
+  const seen = (letters) => { const { shown, count } = found(listed, letters); return [shown.length, shown[0]?.name ?? null, shown.at(-1)?.name ?? null, count]; };
+  tell("of many pads the first 500 are shown", seen(""), [500, "p0", "p499", 1200]);
+  tell("a search finds those behind them too", seen("P119"), [11, "p119", "p1199", 11]);
+  tell("a search that finds none shows none", seen("q"), [0, null, null, 0]);
 }
 
 function randomDelta(dice, length, author) {
@@ -437,6 +446,7 @@ await guestsAsked();
 modules();
 colours();
 words();
+padList();
 await languages();
 console.log(`${passed} passed, ${failed} failed`);
 process.exit(failed ? 1 : 0);

@@ -78,6 +78,7 @@ export const WORDS = {
     [RIGHTS[right], isClosed && "geschlossen", plural(revisions, "Revision", "Revisionen"), last && `zuletzt: ${last}`, time && `hier gesehen ${time}`, isUnsent && "Änderungen noch nicht gesendet"].filter(Boolean).join(" · ")
   ),
   padsFound: (n) => plural(n, "Pad gefunden", "Pads gefunden"),
+  padsShown: (n) => `die ersten ${n} sind gezeigt`,
   searching: "Es wird gesucht …",
   linesFound: (n) => plural(n, "Zeile gefunden", "Zeilen gefunden"),
   lineNumber: (n) => `Zeile ${number(n)}`,

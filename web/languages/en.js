@@ -80,6 +80,7 @@ export const WORDS = {
     [RIGHTS[right], isClosed && "closed", plural(revisions, "revision", "revisions"), last && `last: ${last}`, time && `seen here ${time}`, isUnsent && "changes not sent yet"].filter(Boolean).join(" · ")
   ),
   padsFound: (n) => plural(n, "pad found", "pads found"),
+  padsShown: (n) => `the first ${n} are shown`,
   searching: "Searching…",
   linesFound: (n) => plural(n, "line found", "lines found"),
   lineNumber: (n) => `Line ${number(n)}`,

@@ -78,6 +78,7 @@ export const WORDS = {
     [RIGHTS[right], isClosed && "cerrado", plural(revisions, "revisión", "revisiones"), last && `lo último: ${last}`, time && `visto aquí ${time}`, isUnsent && "cambios sin enviar"].filter(Boolean).join(" · ")
   ),
   padsFound: (n) => plural(n, "pad encontrado", "pads encontrados"),
+  padsShown: (n) => `se muestran los primeros ${n}`,
   searching: "Buscando…",
   linesFound: (n) => plural(n, "línea encontrada", "líneas encontradas"),
   lineNumber: (n) => `Línea ${number(n)}`,

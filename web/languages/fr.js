@@ -78,6 +78,7 @@ export const WORDS = {
     [RIGHTS[right], isClosed && "fermé", plural(revisions, "révision", "révisions"), last && `en dernier : ${last}`, time && `vu ici le ${time}`, isUnsent && "modifications pas encore envoyées"].filter(Boolean).join(" · ")
   ),
   padsFound: (n) => plural(n, "pad trouvé", "pads trouvés"),
+  padsShown: (n) => `les ${n} premiers sont affichés`,
   searching: "Recherche…",
   linesFound: (n) => plural(n, "ligne trouvée", "lignes trouvées"),
   lineNumber: (n) => `Ligne ${number(n)}`,

@@ -17,7 +17,7 @@ use std::alloc::Global;
 use std::sync::Wait;
 use store_records::leaves_records;
 
-/// Creates one unnamed pad for each of `cells` cells, which is the most pads that the server can have: 1 to 4,096. At
+/// Creates one unnamed pad for each of `cells` cells, which is the most pads that the server can have: 1 to 131,072. At
 /// most `present` visits may be present on a pad at once, and a pad has room for `seats` seats.
 pub fn open_row<S: Sequence>(
     alloc: Global,
@@ -55,7 +55,7 @@ fn cell_of(session: &Session, pad: &Name) -> Option<u32>
 pub struct PadTable<'a, S: Sequence, R: Wait, G: Gate> {
     /// The runtime, for locks.
     pub rt: &'a R,
-    /// At most 4,096 pads, each in the cell of its index.
+    /// At most 131,072 pads, each in the cell of its index.
     pub cells: &'a [SharedPad<S>],
     /// The names of these pads, by which a request finds its cell.
     pub names: &'a Names,
@@ -194,10 +194,7 @@ impl<'a, S: Sequence, R: Wait, G: Gate> PadTable<'a, S, R, G> {
             (record { rooms = session.old.rooms; seats = seats.old.items }) result
             (record { rooms = session.new.rooms; seats = seats.new.items }) }
     {
-        for place in 0..self.cells.len() {
-            if place < start {
-                continue;
-            }
+        for place in start..self.cells.len() {
             if let Some(reply) = self.visit(alloc, seats, session, place, request)? {
                 return Ok(reply);
             }

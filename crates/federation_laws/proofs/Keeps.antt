@@ -1,7 +1,7 @@
 -- What a server keeps of the operations that were made, through pushes and releases.
 use Rattle.std.proofs.Common.{◌≡◌, ◌≢◌, ℕ, zero, suc, ◌+◌, ◌≤◌, ◌⊎◌, inl, inr, Bool, true, false, not, ◌||◌, cond, eqb}
 use Rattle.std.proofs.Common.{leb, ltb, nat_le, List, [], ◌∷◌, ◌++◌, length, Option, Some, None, Result, Ok, Err, refl}
-use Rattle.std.proofs.Common.{sym, ap, ◌∙◌, subst, arith, eqb-true, leb-true, le-leb}
+use Rattle.std.proofs.Common.{sym, ap, ◌∙◌, subst, arith, eqb-true, le-leb}
 use Rattle.std.proofs.lemmas.Bool.{and_parts, or_left, both_ways, cases_eq, cond-true, cond-false}
 use Rattle.std.specs.List.{find}
 use Rattle.pad_model.specs.History.{IsHistory}
@@ -19,7 +19,7 @@ use Rattle.pad_model.proofs.Filters.{Has-filter}
 use Rattle.pad_model.proofs.Newer.{split}
 use Rattle.pad_model.proofs.SeenLemmas.{count_in-with_other}
 use Rattle.pad_model.proofs.Sets.{Has, Has-permutation, Has-from_Contains, Contains-from_Has}
-use Rattle.holdback.specs.Held.{is_covered, is_held, is_ready, reaches, has_name, with_held, without}
+use Rattle.holdback.specs.Held.{is_covered, is_held, is_ready, has_name, with_held, without}
 use Rattle.holdback.specs.declared.held.TheConstants.{MAX_HELD}
 use Rattle.holdback.proofs.Members.{permutation_with}
 use Rattle.std.proofs.lemmas.List.Sorted.{IsPermutation-sym}
@@ -28,6 +28,7 @@ use Rattle.pad_core.specs.Delivered.{IsDelivered, delivery_refusal}
 use Rattle.pad_core.specs.Exchange.{Delivery, delivered, received, release, steps, taken_out}
 use Rattle.pad_core.specs.declared.reply.Pushed.{Pushed}
 use Rattle.pad_core.specs.declared.reply.Pushed.TheVariants.{Repeat, Held, Delivered}
+use Rattle.pad_core.proofs.Counted.{reached}
 use Rattle.pad_core.proofs.Entered.{IsDelivered-push}
 use Rattle.pad_core.proofs.Receives.{received_repeat, received_ready, received_full, received_held}
 use Rattle.pad_core.proofs.Releases.{release_found, release_idle}
@@ -49,16 +50,6 @@ pub record Keeps (made : List Op) (own : ℕ) (log held : List Op) : Type 0 wher
   pub within : (op : Op) → Has log op → Has made op
   pub waiting : (op : Op) → Has held op → Has made op
   pub mine : (op : Op) → Has made op → op.name.origin ≡ own → Has log op
-
--- if counts are reached, each of them is
-reached : (v counts : List Counted) (o : ℕ) → reaches v counts ≡ true → count_in counts o ≤ count_in v o
-reached v [] o h = omega arith
-reached v (pair ∷ counts) o h =
-    let both = and_parts (leb pair.count (count_in v pair.origin)) (reaches v counts) h in
-    split (eqb pair.origin o)
-    (λ e. let low : pair.count ≤ count_in v o = subst (λ q. pair.count ≤ count_in v q) (eqb-true pair.origin o e)
-    (leb-true pair.count (count_in v pair.origin) both.0) in rw e low)
-    (λ e. rw e (reached v counts o both.1))
 
 -- an operation that is ready finds its past, and no more of its origin
 past_there : (made log past : List Op) (op one : Op) → IsMade made → AreNumbered [] log →
@@ -132,8 +123,7 @@ keeps_more : (made : List Op) (own : ℕ) (log held rest : List Op) (op : Op) �
     ((x : Op) → Has rest x → Has made x) →
     Keeps made own (log ++ op ∷ []) rest
 keeps_more made own log held rest op m k there ready none waiting = record {
-  delivered = IsDelivered-push log op k.delivered (history_checked made op m.history there)
-      (eqb-true op.name.number (count_in (vector_of log) op.name.origin + 1) (and_parts _ _ ready).0) none;
+  delivered = IsDelivered-push log op k.delivered (history_checked made op m.history there) ready none;
   within = λ x h. elim (has_either log (op ∷ []) x h) [ inl old ↦ k.within x old | inr new ↦ last x new ];
   waiting = waiting;
   mine = λ x h own. has_front log (op ∷ []) x (k.mine x h own);

@@ -1,12 +1,13 @@
 -- Every world that events lead to keeps what its servers need to take each other's operations.
 use Rattle.std.proofs.Common.{◌≡◌, ◌≢◌, ℕ, ◌+◌, ◌≤◌, ◌⊎◌, inl, inr, true, cond, eqb, List, [], ◌∷◌, ◌++◌, length, drop}
 use Rattle.std.proofs.Common.{refl, sym, ap, ◌∙◌, subst, arith, append-nil, eq-eqb, ne_eqb, le_antisymm}
-use Rattle.std.proofs.lemmas.Bool.{cases_eq, cond-true, cond-false}
+use Rattle.std.proofs.lemmas.Bool.{and_from, cases_eq, cond-true, cond-false}
 use Rattle.pad_model.specs.Log.{is_valid}
 use Rattle.pad_model.specs.Seen.{count_in, with_count}
 use Rattle.pad_model.specs.declared.op.Op.{Op}
 use Rattle.pad_model.proofs.Growth.{IsHistory-push}
 use Rattle.pad_model.proofs.Sets.{Has, Has-from_Contains, Contains-from_Has}
+use Rattle.holdback.specs.Held.{is_ready, reaches}
 use Rattle.pad_core.specs.Counts.{vector_of}
 use Rattle.pad_core.specs.Delivered.{IsDelivered}
 use Rattle.pad_core.specs.Exchange.{received, unsettled}
@@ -15,9 +16,10 @@ use Rattle.pad_core.specs.Ran.{Stepped, event_step}
 use Rattle.pad_core.specs.declared.act.Act.{Act}
 use Rattle.pad_core.specs.declared.act.Act.TheVariants as act
 use Rattle.pad_core.specs.declared.event.PadEvent.{PadEvent}
-use Rattle.pad_core.proofs.Counted.{AreNumbered-push}
+use Rattle.pad_core.proofs.Counted.{AreNumbered-push, IsVector-vector_of}
 use Rattle.pad_core.proofs.Entered.{IsDelivered-push}
 use Rattle.pad_core.proofs.Judged.{allowed}
+use Rattle.pad_core.proofs.Others.{others_reached}
 use Rattle.pad_core.proofs.SameSet.{has_front, has_behind, has_either}
 use Rattle.federation_laws.specs.Laws.{GoesOnLaw}
 use Rattle.federation_laws.specs.Past.{IsMadeBehind}
@@ -87,12 +89,19 @@ made_more made own log held op m k local =
     at one valid (inr (inl is)) = (log, subst (IsMadeBehind (made ++ op ∷ []) log) is (here valid))
     at one valid (inr (inr none)) = absurd none
 
+-- an operation that a server makes is ready there
+local_ready : (own : ℕ) (log : List Op) (op : Op) → IsLocal own log op → is_ready (vector_of log) op ≡ true
+local_ready own log op local =
+    and_from _ _ (eq-eqb op.name.number (count_in (vector_of log) op.name.origin + 1)
+    (subst (λ o. op.name.number ≡ count_in (vector_of log) o + 1) (sym local.origin) local.number))
+    (subst (λ v. reaches (vector_of log) v ≡ true) (sym local.seen)
+    (others_reached (vector_of log) own (IsVector-vector_of log)))
+
 -- the server that made it keeps it
 keeps_own : (made : List Op) (own : ℕ) (log held : List Op) (op : Op) → Keeps made own log held → IsLocal own log op →
     Keeps (made ++ op ∷ []) own (log ++ op ∷ []) held
 keeps_own made own log held op k local = record {
-  delivered = IsDelivered-push log op k.delivered local.checked
-      (subst (λ o. op.name.number ≡ count_in (vector_of log) o + 1) (sym local.origin) local.number) local.allowed;
+  delivered = IsDelivered-push log op k.delivered local.checked (local_ready own log op local) local.allowed;
   within = λ one h. into one (has_either log (op ∷ []) one h);
   waiting = λ one h. has_front made (op ∷ []) one (k.waiting one h);
   mine = λ one h same. back one same (has_either made (op ∷ []) one h);
@@ -308,7 +317,7 @@ stands_first world b = record {
     no_made = record { history = tt; numbered = tt; each = λ op h. absurd h }
 
     no_log : IsDelivered []
-    no_log = record { history = tt; numbered = tt; room = omega arith; short = omega arith; few = omega arith }
+    no_log = record { history = tt; numbered = tt; timely = tt; room = omega arith; short = omega arith; few = omega arith }
 
     keeps_nothing : (server : ℕ) → Keeps [] server [] []
     keeps_nothing server = record { delivered = no_log; within = λ op h. absurd h; waiting = λ op h. absurd h; mine = λ op h same. absurd h }

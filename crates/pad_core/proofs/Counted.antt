@@ -1,6 +1,6 @@
 -- Counts of a log's operations, and names that follow from them.
-use Rattle.std.proofs.Common.{◌≡◌, ◌≢◌, ℕ, ◌+◌, ◌≤◌, ◌<◌, false, eqb, List, [], ◌∷◌, ◌++◌, length, fold, refl, sym}
-use Rattle.std.proofs.Common.{subst, arith, eqb-true}
+use Rattle.std.proofs.Common.{◌≡◌, ◌≢◌, ℕ, ◌+◌, ◌≤◌, ◌<◌, true, false, eqb, List, [], ◌∷◌, ◌++◌, length, fold, refl, sym}
+use Rattle.std.proofs.Common.{leb, subst, arith, eqb-true, leb-true}
 use Rattle.std.proofs.lemmas.Bool.{eqb-false, and_parts}
 use Rattle.std.specs.List.{AllByRecursion, list_any}
 use Rattle.pad_model.specs.Log.{same_name}
@@ -10,7 +10,8 @@ use Rattle.pad_model.specs.declared.op.OpName.{OpName}
 use Rattle.pad_model.specs.declared.seen.Counted.{Counted}
 use Rattle.pad_model.proofs.Newer.{split}
 use Rattle.pad_model.proofs.SeenLemmas.{count_in-with_count, count_in-with_other, IsVector-with_count}
-use Rattle.pad_core.specs.Counts.{counted, vector_of, AreNumbered}
+use Rattle.holdback.specs.Held.{is_ready, reaches}
+use Rattle.pad_core.specs.Counts.{counted, vector_of, AreNumbered, AreTimely}
 
 fold-push : (v : List Counted) (log : List Op) (op : Op) → fold counted v (log ++ op ∷ [])
     ≡ counted (fold counted v log) op
@@ -62,6 +63,11 @@ fold_most v (op ∷ log) origin h =
     let a = one.0 in let b = one.1 in let c = rest.0 in let d = rest.1 in
     (omega arith, omega arith)
 
+-- no count falls along a log
+pub counts_grow : (v : List Counted) (log : List Op) (origin : ℕ) → IsVector v →
+    count_in v origin ≤ count_in (fold counted v log) origin
+counts_grow v log origin h = (fold_most v log origin h).1
+
 -- no count is above the number of operations
 pub count_in-le-length : (log : List Op) (origin : ℕ) → count_in (vector_of log) origin ≤ length log
 count_in-le-length log origin = let most : count_in (vector_of log) origin ≤ 0 + length log =
@@ -76,6 +82,45 @@ numbered-push v (x ∷ log) op n e = (n.0, numbered-push (counted v x) log op n.
 pub AreNumbered-push : (log : List Op) (op : Op) → AreNumbered [] log → op.name.number
     ≡ count_in (vector_of log) op.name.origin + 1 → AreNumbered [] (log ++ op ∷ [])
 AreNumbered-push log op n e = numbered-push [] log op n e
+
+-- an operation in the middle of a log is the next of its origin behind those before it
+pub next_at : (v : List Counted) (log : List Op) (op : Op) (more : List Op) → AreNumbered v (log ++ op ∷ more) →
+    op.name.number ≡ count_in (fold counted v log) op.name.origin + 1
+next_at v [] op more n = n.0
+next_at v (x ∷ log) op more n = next_at (counted v x) log op more n.1
+
+-- and all that it had seen is there
+pub reached_at : (v : List Counted) (log : List Op) (op : Op) (more : List Op) → AreTimely v (log ++ op ∷ more) →
+    reaches (fold counted v log) op.seen ≡ true
+reached_at v [] op more t = t.0
+reached_at v (x ∷ log) op more t = reached_at (counted v x) log op more t.1
+
+-- if counts are reached, each of them is
+pub reached : (v counts : List Counted) (o : ℕ) → reaches v counts ≡ true → count_in counts o ≤ count_in v o
+reached v [] o h = omega arith
+reached v (pair ∷ counts) o h =
+    let both = and_parts (leb pair.count (count_in v pair.origin)) (reaches v counts) h in
+    split (eqb pair.origin o)
+    (λ e. let low : pair.count ≤ count_in v o = subst (λ q. pair.count ≤ count_in v q) (eqb-true pair.origin o e)
+    (leb-true pair.count (count_in v pair.origin) both.0) in rw e low)
+    (λ e. rw e (reached v counts o both.1))
+
+timely-push : (v : List Counted) (log : List Op) (op : Op) → AreTimely v log → reaches (fold counted v log) op.seen
+    ≡ true → AreTimely v (log ++ op ∷ [])
+timely-push v [] op t e = (e, tt)
+timely-push v (x ∷ log) op t e = (t.0, timely-push (counted v x) log op t.1 e)
+
+-- one more operation comes after all that it had seen
+pub AreTimely-push : (log : List Op) (op : Op) → AreTimely [] log → reaches (vector_of log) op.seen ≡ true →
+    AreTimely [] (log ++ op ∷ [])
+AreTimely-push log op t e = timely-push [] log op t e
+
+-- an operation that is ready is the next of its origin, and the counts that it had seen are reached
+pub ready_is : (v : List Counted) (op : Op) → is_ready v op ≡ true → (op.name.number ≡ count_in v op.name.origin + 1)
+    × (reaches v op.seen ≡ true)
+ready_is v op ready =
+    let both = and_parts (eqb op.name.number (count_in v op.name.origin + 1)) (reaches v op.seen) ready in
+    (eqb-true op.name.number (count_in v op.name.origin + 1) both.0, both.1)
 
 numbers_from : (v : List Counted) (log : List Op) → IsVector v → AreNumbered v log →
     AllByRecursion (λ op. op.name.number ≤ count_in (fold counted v log) op.name.origin) log

@@ -39,11 +39,12 @@ use Rattle.pad_model.proofs.Newer.{split}
 use Rattle.pad_model.proofs.Stretch.{hidden-cells_of}
 use Rattle.comments.specs.declared.comment.Comment as kept
 use Rattle.comments.specs.Comments as book
+use Rattle.holdback.specs.Held.{is_ready}
 use Rattle.pad_core.specs.Book.{book_of, entered, may_enter}
 use Rattle.pad_core.specs.Counts.{counted, vector_of}
 use Rattle.pad_core.specs.Delivered.{Enters, IsDelivered, IsLedger, delivery_refusal}
 use Rattle.pad_core.proofs.Booked.{book_of-push, by_parts, edits_enter, is_comment-book_of, length-book_of}
-use Rattle.pad_core.proofs.Counted.{AreNumbered-push, name_fresh, vector_of-push}
+use Rattle.pad_core.proofs.Counted.{AreNumbered-push, AreTimely-push, name_fresh, ready_is, vector_of-push}
 use Rattle.pad_core.proofs.Judged.{Allowed, allowed}
 
 -- the characters of a longer log
@@ -53,9 +54,10 @@ inserted-push log op = flat_map-append inserted_by log (op ∷ []) ∙ ap (λ l.
     (append-nil (inserted_by op))
 
 -- a log that may be delivered, with an operation that may be delivered next
-pub IsDelivered-push : (log : List Op) (op : Op) → IsDelivered log → is_checked op ≡ true → op.name.number
-    ≡ count_in (vector_of log) op.name.origin + 1 → delivery_refusal op log ≡ None → IsDelivered (log ++ op ∷ [])
-IsDelivered-push log op d checked next none =
+pub IsDelivered-push : (log : List Op) (op : Op) → IsDelivered log → is_checked op ≡ true →
+    is_ready (vector_of log) op ≡ true → delivery_refusal op log ≡ None → IsDelivered (log ++ op ∷ [])
+IsDelivered-push log op d checked ready none =
+    let is = ready_is (vector_of log) op ready in
     let a : Allowed log op = allowed log op none in
     let characters : length (characters_in (log ++ op ∷ [])).inserted ≡ length (characters_in log).inserted
     + length (inserted_by op) =
@@ -65,7 +67,8 @@ IsDelivered-push log op d checked next none =
     let short = a.short in
     record {
       history = IsHistory-push log op d.history checked a.valid;
-      numbered = AreNumbered-push log op d.numbered next;
+      numbered = AreNumbered-push log op d.numbered is.0;
+      timely = AreTimely-push log op d.timely is.1;
       room = omega arith;
       short = omega arith;
       few = split (is_comment op)
@@ -250,17 +253,17 @@ entered_all log op cells new_cells comments new_comments hidden (inr h) =
 -- what is kept beside the longer log
 pub IsLedger-push : (log longer : List Op) (op : Op) (seen new_seen : List Counted) (cells new_cells : List Cell)
     (comments new_comments : List kept.Comment) (hidden : ℕ) →
-    IsLedger log seen comments cells → is_checked op ≡ true → op.name.number ≡ count_in (vector_of log) op.name.origin
-    + 1 → delivery_refusal op log ≡ None →
+    IsLedger log seen comments cells → is_checked op ≡ true → is_ready (vector_of log) op ≡ true →
+    delivery_refusal op log ≡ None →
     Enters log op (cells, comments) (Ok hidden) (new_cells, new_comments) → longer ≡ log ++ op ∷ [] → new_seen
     ≡ with_count seen op.name.origin (count_in seen op.name.origin + 1) →
     IsLedger longer new_seen new_comments new_cells
-IsLedger-push log longer op seen new_seen cells new_cells comments new_comments hidden l checked next none enters
+IsLedger-push log longer op seen new_seen cells new_cells comments new_comments hidden l checked ready none enters
     longer_is seen_is =
     let all = entered_all log op cells new_cells comments new_comments hidden enters in
     subst (λ ops. IsLedger ops new_seen new_comments new_cells) (sym longer_is)
     (record {
-      delivered = IsDelivered-push log op l.delivered checked next none;
+      delivered = IsDelivered-push log op l.delivered checked ready none;
       counted = seen_is ∙ ap (λ v. counted v op) l.counted ∙ sym (vector_of-push log op);
       commented = all.1;
       kept = all.0;

@@ -7,6 +7,7 @@ pub mod Audited
 pub mod Batched
 pub mod Booked
 pub mod ByName
+pub mod Causes
 pub mod Commented
 pub mod Counted
 pub mod Entered

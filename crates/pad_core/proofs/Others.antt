@@ -1,7 +1,7 @@
 -- What an operation made here has seen of the other origins.
 use Rattle.std.proofs.Common.{◌≡◌, ℕ, zero, suc, ◌+◌, ◌≤◌, ◌<◌, Bool, true, false, not, ◌&&◌, cond, eqb, leb, ltb, List}
 use Rattle.std.proofs.Common.{[], ◌∷◌, ◌++◌, length, fold, refl, sym, ap, ap₂, ◌∙◌, subst, arith, eqb-true, le-leb}
-use Rattle.std.proofs.Common.{leb-true, ne_eqb, ltb-false}
+use Rattle.std.proofs.Common.{leb-true, ne_eqb, ltb-false, eq-eqb}
 use Rattle.std.proofs.lemmas.Bool.{and_from, and_parts, false≢true, eqb-false}
 use Rattle.std.specs.List.{AllByRecursion}
 use Rattle.pad_model.specs.Checked.{is_checked, is_within, is_seen}
@@ -9,11 +9,13 @@ use Rattle.pad_model.specs.History.{IsHistory, Continues}
 use Rattle.pad_model.specs.Seen.{IsVector, count_in, with_first, with_count}
 use Rattle.pad_model.specs.declared.limits.TheConstants.{MAX_NUMBER}
 use Rattle.pad_model.specs.declared.op.Op.{Op}
+use Rattle.pad_model.specs.declared.op.Part.{Part}
 use Rattle.pad_model.specs.declared.seen.Counted.{Counted}
 use Rattle.pad_model.proofs.Each.{each-imply, each-both}
 use Rattle.pad_model.proofs.Local.{all_pass}
 use Rattle.pad_model.proofs.Newer.{split}
-use Rattle.pad_core.specs.Counts.{counted, vector_of}
+use Rattle.holdback.specs.Held.{is_ready, reaches}
+use Rattle.pad_core.specs.Counts.{counted, op_of, vector_of}
 use Rattle.pad_core.proofs.Counted.{IsVector-vector_of}
 
 -- what is not 0 is 1 or more
@@ -106,6 +108,32 @@ taken_out (pair ∷ v) own h =
         AllByRecursion (λ pair. eqb pair.origin own ≡ false) (cond b v (pair ∷ v))
     rest true is above = later above
     rest false is above = (sym is, later above)
+
+-- each of its own counts is reached
+reached_itself : (v : List Counted) → IsVector v → AllByRecursion (λ pair. leb pair.count (count_in v pair.origin)
+    ≡ true) v
+reached_itself [] h = tt
+reached_itself (pair ∷ v) h = (
+  rw (eq-eqb pair.origin pair.origin refl) (le-leb pair.count pair.count (omega arith)),
+  each-both (λ later. pair.origin < later.origin) (λ later. leb later.count (count_in v later.origin) ≡ true)
+      (λ later. leb later.count (count_in (pair ∷ v) later.origin) ≡ true)
+      (λ later l e. rw (ne_eqb pair.origin later.origin (omega arith)) e) v h.1 (reached_itself v h.2),
+)
+
+-- what is delivered of the other origins is reached
+pub others_reached : (v : List Counted) (own : ℕ) → IsVector v → reaches v (with_count v own 0) ≡ true
+others_reached v own h =
+    all_pass (λ pair. leb pair.count (count_in v pair.origin)) (with_count v own 0)
+    (each-with_count (λ pair. leb pair.count (count_in v pair.origin) ≡ true) v own 0 (reached_itself v h)
+    (λ some. absurd (omega arith)))
+
+-- an operation that is made here is ready at once
+pub own_ready : (own : ℕ) (author : List ℕ) (parts : List Part) (log : List Op) →
+    is_ready (vector_of log) (op_of own author parts log) ≡ true
+own_ready own author parts log =
+    let number = count_in (vector_of log) own + 1 in
+    and_from (eqb number number) _ (eq-eqb number number refl)
+    (others_reached (vector_of log) own (IsVector-vector_of log))
 
 -- what is delivered of the other origins may be named by an operation of this one
 pub others_checked : (log : List Op) (own : ℕ) → IsHistory log → length log ≤ MAX_NUMBER →

@@ -1,12 +1,10 @@
 -- A release step by step: what it takes out, and when it stops.
 use Rattle.std.proofs.Common.{◌≡◌, ℕ, zero, suc, ◌+◌, ◌-◌, ◌≤◌, Bool, true, false, not, cond, inl, inr, List, [], ◌∷◌}
 use Rattle.std.proofs.Common.{length, Result, Ok, Err, Option, Some, None, option_map, IsTrue, refl, sym, ap, ap₂}
-use Rattle.std.proofs.Common.{◌∙◌, subst, arith, eqb-true}
-use Rattle.std.proofs.lemmas.Bool.{and_parts}
+use Rattle.std.proofs.Common.{◌∙◌, subst, arith}
 use Rattle.std.specs.List.{AllByRecursion, find}
 use Rattle.pad_model.specs.Answers.{Answers}
 use Rattle.pad_model.specs.Checked.{is_checked}
-use Rattle.pad_model.specs.Seen.{count_in}
 use Rattle.pad_model.specs.declared.op.Op.{Op}
 use Rattle.pad_model.specs.declared.op.OpName.{OpName}
 use Rattle.pad_model.specs.declared.seen.Counted.{Counted}
@@ -129,17 +127,16 @@ steps_idle n (suc k) d still =
     let one : suc k + n ≡ suc (k + n) = omega arith in
     ap (λ (m : ℕ). steps m d) one ∙ ap release (steps_idle n k d still) ∙ still
 
--- an operation that is found ready is the next of its origin
-pub ready_next : (seen : List Counted) (held : List Op) (op : Op) → find (is_ready seen) held ≡ Some op → op.name.number
-    ≡ count_in seen op.name.origin + 1
-ready_next seen [] op e = absurd (cc)
-ready_next seen (x ∷ held) op e =
+-- an operation that is found ready is ready
+pub ready_found : (seen : List Counted) (held : List Op) (op : Op) → find (is_ready seen) held ≡ Some op →
+    is_ready seen op ≡ true
+ready_found seen [] op e = absurd (cc)
+ready_found seen (x ∷ held) op e =
     split (is_ready seen x)
     (λ yes.
     let here : x ≡ op = same_some x op (sym (ap (λ b. cond b (Some x) (find (is_ready seen) held)) yes) ∙ e) in
-    subst (λ (o : Op). o.name.number ≡ count_in seen o.name.origin + 1) here
-    (eqb-true x.name.number (count_in seen x.name.origin + 1) (and_parts _ _ yes).0))
-    (λ no. ready_next seen held op (sym (ap (λ b. cond b (Some x) (find (is_ready seen) held)) no) ∙ e))
+    subst (λ (o : Op). is_ready seen o ≡ true) here yes)
+    (λ no. ready_found seen held op (sym (ap (λ b. cond b (Some x) (find (is_ready seen) held)) no) ∙ e))
   where
     same_some : (a b : Op) → Some a ≡ Some b → a ≡ b
     same_some a b q = cc

@@ -1,11 +1,12 @@
 -- How many operations of each origin a log has, and the names that follow from it.
-use Rattle.std.specs.Prelude.{◌≡◌, ℕ, ◌+◌, List, [], ◌∷◌, fold, take}
+use Rattle.std.specs.Prelude.{◌≡◌, ℕ, ◌+◌, List, [], ◌∷◌, fold, take, IsTrue}
 use Rattle.pad_model.specs.Operation.{Characters, characters_in}
 use Rattle.pad_model.specs.Seen.{count_in, with_count}
 use Rattle.pad_model.specs.declared.op.Op.{Op}
 use Rattle.pad_model.specs.declared.op.OpName.{OpName}
 use Rattle.pad_model.specs.declared.op.Part.{Part}
 use Rattle.pad_model.specs.declared.seen.Counted.{Counted}
+use Rattle.holdback.specs.Held.{reaches}
 
 -- the vector once one more operation is counted
 abbrev pub counted : List Counted → Op → List Counted
@@ -20,6 +21,11 @@ abbrev pub AreNumbered : List Counted → List Op → Type 0
 AreNumbered seen [] = Unit {0}
 AreNumbered seen (op ∷ log) = (op.name.number ≡ count_in seen op.name.origin + 1)
     × AreNumbered (counted seen op) log
+
+-- each further operation comes after all that it had seen
+abbrev pub AreTimely : List Counted → List Op → Type 0
+AreTimely seen [] = Unit {0}
+AreTimely seen (op ∷ log) = IsTrue (reaches seen op.seen) × AreTimely (counted seen op) log
 
 -- the name of the next operation of an origin
 abbrev pub next_name : ℕ → List Op → OpName

@@ -14,17 +14,18 @@ use Rattle.pad_model.specs.declared.refusal.Refusal.TheVariants.{PeerFault}
 use Rattle.pad_model.specs.declared.limits.TheConstants.{MAX_CHARACTERS, MAX_OPERATIONS, MAX_COMMENTS}
 use Rattle.comments.specs.declared.comment.Comment.{Comment}
 use Rattle.pad_core.specs.Book.{book_of}
-use Rattle.pad_core.specs.Counts.{AreNumbered, vector_of}
+use Rattle.pad_core.specs.Counts.{AreNumbered, AreTimely, vector_of}
 
 -- why an operation is not delivered, if so: it does not fit the log, or it would exceed a limit of the pad
 abbrev pub delivery_refusal : Op → List Op → Option Refusal
 delivery_refusal op log = if not (is_valid op log) then Some PeerFault else limit_passed op log
 
--- a log that was made operation by operation, each in the limits, valid at its place and the next of its origin; and
--- the limits of a pad
+-- a log that was made operation by operation, each in the limits, valid at its place, the next of its origin, and after
+-- all that it had seen; and the limits of a pad
 pub record IsDelivered (log : List Op) : Type 0 where
   pub history : IsHistory log
   pub numbered : AreNumbered [] log
+  pub timely : AreTimely [] log
   pub room : length (characters_in log).inserted ≤ MAX_CHARACTERS
   pub short : length log ≤ MAX_OPERATIONS
   pub few : count_by is_comment log ≤ MAX_COMMENTS

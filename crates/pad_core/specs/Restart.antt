@@ -1,16 +1,14 @@
 -- How a pad is restored after a restart, from what was done on it before.
-use Rattle.std.specs.Prelude.{ℕ, ◌+◌, ◌==◌, Bool, true, false, not, ◌&&◌, if◌then◌else◌, List, [], ◌∷◌, ◌++◌, length, Option, Some, None}
+use Rattle.std.specs.Prelude.{ℕ, ◌+◌, Bool, true, false, not, ◌&&◌, if◌then◌else◌, List, [], ◌∷◌, ◌++◌, length, Option, Some, None}
 use Rattle.std.specs.Prelude.{Result, Ok, Err}
 use Rattle.pad_model.specs.Checked.{is_checked, is_name}
-use Rattle.pad_model.specs.Seen.{count_in}
 use Rattle.pad_model.specs.declared.op.Op.{Op}
-use Rattle.pad_model.specs.declared.op.OpName.{OpName}
-use Rattle.pad_model.specs.declared.seen.Counted.{Counted}
 use Rattle.pad_model.specs.declared.refusal.Refusal.{Refusal}
 use Rattle.pad_model.specs.declared.refusal.Refusal.TheVariants.{NoPad, PadExists, BadName, BadOp, PeerFault}
 use Rattle.rights.specs.Rights.{can_have, grant, hand}
 use Rattle.rights.specs.declared.grantee.Grantee.{Grantee}
 use Rattle.rights.specs.declared.right.Right.{Right}
+use Rattle.holdback.specs.Held.{is_ready}
 use Rattle.presence.specs.Presence.{Presence, counted, spent_refusal}
 use Rattle.pad_core.specs.Counts.{vector_of}
 use Rattle.pad_core.specs.Delivered.{delivery_refusal}
@@ -141,16 +139,12 @@ restore_visit author m = at m.owned
         let done = visited author m.presence in
         (done.0, record m { presence = done.1 })
 
--- whether a name is the next of its origin
-abbrev pub is_next : List Counted → OpName → Bool
-is_next seen name = name.number == count_in seen name.origin + 1
-
--- why an operation is not delivered again, if so: it passes a limit, it is not the next of its origin, or it would not
--- be delivered now
+-- why an operation is not delivered again, if so: it passes a limit, it is not the next of its origin, it comes before
+-- one that it had seen, or it would not be delivered now
 abbrev pub restore_refusal : Op → List Op → Option Refusal
 restore_refusal op log =
     if not (is_checked op) then Some BadOp
-    else if not (is_next (vector_of log) op.name) then Some PeerFault
+    else if not (is_ready (vector_of log) op) then Some PeerFault
     else delivery_refusal op log
 
 -- an operation is delivered, whose own origin may be this server

@@ -3,8 +3,8 @@ ghost use Rattle.std.specs.Prelude.{◌≡◌, ◌+◌, ◌++◌, ◌∷◌, [],
 ghost use Rattle.pad_model.specs.Answers.{Answers};
 ghost use Rattle.pad_model.specs.Checked.{is_checked};
 ghost use Rattle.pad_model.specs.Operation.{characters_in, erased_by};
-ghost use Rattle.pad_model.specs.Seen.{count_in};
 ghost use Rattle.pad_model.specs.Visible.{hidden_by};
+ghost use Rattle.holdback.specs.Held.{is_ready};
 ghost use Rattle.pad_core.specs.Counts.{vector_of};
 ghost use Rattle.pad_core.specs.Delivered.{delivery_refusal};
 
@@ -21,7 +21,7 @@ pub fn append<S: Sequence>(
     op: Op,
 ) -> Result<u64, Refusal>
     requires checked { IsTrue (is_checked op) }
-    requires next { op.name.number ≡ count_in (vector_of ledger.old) op.name.origin + 1 }
+    requires ready { IsTrue (is_ready (vector_of ledger.old) op) }
     requires allowed { delivery_refusal op ledger.old ≡ None }
     requires room { length ledger.old ≤ made.old.room }
     ensures answer { Answers ledger.old (

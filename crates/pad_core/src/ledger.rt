@@ -11,6 +11,7 @@ ghost use Rattle.pad_model.specs.Pieces as pieces_spec;
 ghost use Rattle.pad_model.specs.Seen.{count_in};
 ghost use Rattle.pad_model.specs.Views.{IsViewOf};
 ghost use Rattle.pad_model.specs.Visible.{caret_of, hidden_by, runs_of, spans_of, stamp_at, text_of, visible};
+ghost use Rattle.holdback.specs.Held.{is_ready};
 ghost use Rattle.op_log.specs.Found.{IsNextMissing};
 ghost use Rattle.op_log.specs.Log.{is_missing, is_note};
 ghost use Rattle.op_log.specs.Log as log_spec;
@@ -273,11 +274,11 @@ impl<S: Sequence> Ledger<S> {
         None
     }
 
-    /// Delivers an operation: the next of its origin, to which no refusal applies. Returns the number of visible
-    /// characters that it hides.
+    /// Delivers an operation that is ready, to which no refusal applies. Returns the number of visible characters that
+    /// it hides.
     pub fn append(&mut self, alloc: Global, op: Op) -> Result<u64, Refusal>
         requires checked { IsTrue (is_checked op) }
-        requires next { op.name.number ≡ count_in (vector_of self.old) op.name.origin + 1 }
+        requires ready { IsTrue (is_ready (vector_of self.old) op) }
         requires allowed { delivery_refusal op self.old ≡ None }
         ensures { Answers self.old (
           Ok (hidden_by (erased_by op) (characters_in self.old)),

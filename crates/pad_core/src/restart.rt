@@ -4,7 +4,6 @@ ghost use Rattle.pad_model.specs.Answers.{Answers};
 ghost use Rattle.presence.specs.Presence.{Presence, counted};
 ghost use Rattle.pad_core.specs.Machine.{new_owned, nobody_present};
 ghost use Rattle.pad_core.specs.Restart.{author_if, closed_again, delivered_again, granted_again, handed_again, introduced_again, marked_again, visited};
-ghost use Rattle.pad_core.specs.Restart as restart;
 ghost use Rattle.pad_core.specs.declared.owned.Owned.{Owned};
 
 use crate::append::append;
@@ -12,9 +11,10 @@ use crate::ledger::Ledger;
 use crate::marks::name_revision;
 use crate::owned::Owned;
 use guests::Guest;
+use holdback::is_ready;
 use named_revisions::NamedRevision;
 use op_log::MadeList;
-use pad_model::{Name, Op, OpName, Refusal, Seen, Sequence};
+use pad_model::{Name, Op, Refusal, Sequence};
 use presence::PresenceBook;
 use rights::{Grantee, Right};
 use std::alloc::Global;
@@ -138,7 +138,7 @@ pub fn deliver_again<S: Sequence>(
     ensures room { length ledger.new ≤ made.new.room }
 {
     op.check()?;
-    if !is_next(ledger.seen(), op.name) {
+    if !is_ready(&op, ledger.seen()) {
         return Err(Refusal::PeerFault);
     }
     if let Some(refusal) = ledger.refusal_of(&op) {
@@ -146,11 +146,4 @@ pub fn deliver_again<S: Sequence>(
     }
     append(alloc, ledger, made, op)?;
     Ok(())
-}
-
-/// Returns true if a name is the next of its origin.
-fn is_next(seen: &Seen, name: OpName) -> bool
-    ensures { result ≡ restart.is_next seen.now name }
-{
-    name.number.checked_sub(1) == Some(seen.count(name.origin))
 }

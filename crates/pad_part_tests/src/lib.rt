@@ -37,4 +37,6 @@ mod seeded;
 #[cfg(test)]
 mod sequence;
 #[cfg(test)]
+mod session_rooms;
+#[cfg(test)]
 mod users;

@@ -18,7 +18,7 @@ use std::alloc::{AllocError, Global};
 pub struct ReplayArguments<'a> {
     /// The replica number of a server whose title does not name one, at least 1.
     pub replica: u16,
-    /// The number of pads that a server has room for, 1 to 4,096.
+    /// The number of pads that a server has room for, 1 to 131,072.
     pub cells: u32,
     /// The number of visits that may be present on a pad at once, 1 to 1,024.
     pub present: u64,
@@ -51,7 +51,7 @@ fn command<'a>(alloc: Global) -> Result<Command<'a>, AllocError>
     ensures { IfOk result (λ command. app_of command ≡ line) }
 {
     let replica_help = "The replica number of a server whose title names none, 1 to 65535";
-    let cells_help = "How many pads a server has room for, 1 to 4,096 [default: 64]";
+    let cells_help = "How many pads a server has room for, 1 to 131,072 [default: 64]";
     let present_help = "How many visits may be present on a pad at once, 1 to 1,024 [default: 64]";
     Command::new(alloc, "pad_replay")
         .about("Plays sessions against a pad server, from lines NAME<TAB>REQUEST")

@@ -25,7 +25,7 @@ use std::alloc::{AllocError, Global};
 pub struct ServerArguments<'a> {
     /// The replica number of this server, at least 1.
     pub replica: u16,
-    /// The number of pads that the server has room for, 1 to 4,096.
+    /// The number of pads that the server has room for, 1 to 131,072.
     pub cells: u32,
     /// The limit of visits that may be present on a pad at once, 1 to 1,024.
     pub present: u64,
@@ -101,7 +101,7 @@ fn with_service_options<'a>(alloc: Global) -> Result<Command<'a>, AllocError>
 fn with_size_options<'a>(alloc: Global) -> Result<Command<'a>, AllocError>
     ensures { IfOk result (λ command. app_of command ≡ line_with_sizes) }
 {
-    let cells_help = "How many pads the server has room for, 1 to 4,096 [default: 64]";
+    let cells_help = "How many pads the server has room for, 1 to 131,072 [default: 64]";
     let present_help = "How many visits may be present on a pad at once, 1 to 1,024 [default: 64]";
     with_service_options(alloc)?
         .arg(cells_option(alloc, cells_help))?

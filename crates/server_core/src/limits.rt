@@ -1,7 +1,7 @@
 //! The limits of a server.
 
 /// The most cells of a server.
-pub const MAX_CELLS: u32 = 4_096;
+pub const MAX_CELLS: u32 = 131_072;
 
 /// The default number of cells of a server.
 pub const DEFAULT_CELLS: u32 = 64;

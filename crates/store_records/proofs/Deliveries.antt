@@ -13,6 +13,7 @@ use Rattle.pad_core.specs.Times.{time_now, timed}
 use Rattle.pad_core.proofs.Timed.{Times, none_more, timed_more}
 use Rattle.store_records.specs.Laws.{now_at, visit_at}
 use Rattle.std.specs.Prelude.{IsTrue, sum_by}
+use Rattle.std.proofs.lemmas.Bool.{and_from}
 use Rattle.std.proofs.lemmas.List.{length-append}
 use Rattle.std.proofs.lemmas.List.Concat.{flat_map-append}
 use Rattle.std.proofs.lemmas.List.Sums.{sum_by-append, sum_by-cons}
@@ -25,11 +26,13 @@ use Rattle.pad_model.specs.declared.limits.TheConstants.{MAX_CHARACTERS, MAX_OPE
 use Rattle.pad_model.specs.declared.op.Op.{Op}
 use Rattle.pad_model.specs.declared.refusal.Refusal.{Refusal}
 use Rattle.pad_model.specs.declared.seen.Counted.{Counted}
-use Rattle.pad_core.specs.Counts.{AreNumbered, counted, vector_of}
+use Rattle.holdback.specs.Held.{is_ready}
+use Rattle.pad_core.specs.Counts.{vector_of}
 use Rattle.pad_core.specs.Delivered.{IsDelivered}
 use Rattle.pad_core.specs.Machine.{Machine}
-use Rattle.pad_core.specs.Restart.{delivered_again, is_next, restarted, restore_refusal}
+use Rattle.pad_core.specs.Restart.{delivered_again, restarted, restore_refusal}
 use Rattle.pad_core.specs.declared.owned.Owned.{Owned}
+use Rattle.pad_core.proofs.Counted.{next_at, reached_at}
 use Rattle.pad_core.proofs.Judged.{Allowed, not_refused}
 use Rattle.store_records.specs.Records.{replay_all, replayed, unless_refused}
 use Rattle.store_records.specs.declared.kept_record.Record.TheVariants.{Delivered}
@@ -64,11 +67,6 @@ checked_at before [] op more c = (c.0, subst (λ l. IsTrue (is_valid op l)) (sym
 checked_at before (x ∷ log) op more c =
     let h = checked_at (before ++ x ∷ []) log op more c.2 in
     (h.0, subst (λ l. IsTrue (is_valid op l)) (append_assoc before (x ∷ []) log) h.1)
-
-next_at : (seen : List Counted) (log : List Op) (op : Op) (more : List Op) → AreNumbered seen (log ++ op ∷ more) →
-    op.name.number ≡ count_in (fold counted seen log) op.name.origin + 1
-next_at seen [] op more n = n.0
-next_at seen (x ∷ log) op more n = next_at (counted seen x) log op more n.1
 
 -- the number of a log's comments, with one of them in the middle
 comments_at : (log : List Op) (op : Op) (more : List Op) → is_comment op ≡ true → count_by is_comment log + 1
@@ -105,9 +103,10 @@ allowed_at log op more d =
 again_at : (log : List Op) (op : Op) (more : List Op) → IsDelivered (log ++ op ∷ more) → restore_refusal op log ≡ None
 again_at log op more d =
     let checked : is_checked op ≡ true = (checked_at [] log op more d.history).0 in
-    let next : is_next (vector_of log) op.name ≡ true = eq-eqb op.name.number (count_in (vector_of log) op.name.origin
-    + 1) (next_at [] log op more d.numbered) in
-    rw (checked, next) (not_refused log op (allowed_at log op more d))
+    let ready : is_ready (vector_of log) op ≡ true =
+    and_from _ _ (eq-eqb op.name.number (count_in (vector_of log) op.name.origin + 1)
+    (next_at [] log op more d.numbered)) (reached_at [] log op more d.timely) in
+    rw (checked, ready) (not_refused log op (allowed_at log op more d))
 
 -- a restarted pad delivers it, at a time that is not before the last one
 one_again : (o : Option Owned) (replica limit : ℕ) (log : List Op) (given : Given) (made : Made) (at visit : ℕ) (op : Op) →

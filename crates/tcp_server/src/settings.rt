@@ -15,7 +15,7 @@ pub struct StandbyPeer {
 pub struct Settings<'a> {
     /// The replica number of this server, at least 1.
     pub replica: u16,
-    /// The number of pads for which the server has room, at most 4,096.
+    /// The number of pads for which the server has room, at most 131,072.
     pub cells: u32,
     /// The most visits that may be present on a pad at once.
     pub present: u64,

@@ -5,7 +5,7 @@ use Rattle.pad_core.specs.Counts.{vector_of}
 use Rattle.pad_core.specs.Delivered.{delivery_refusal}
 use Rattle.pad_core.specs.Released.{delivery}
 use Rattle.pad_core.proofs.Exits.{fails_passed}
-use Rattle.pad_core.proofs.Releases.{AreChecked, found_checked, without_checked, appended_err, ready_next, stuck}
+use Rattle.pad_core.proofs.Releases.{AreChecked, found_checked, without_checked, appended_err, ready_found, stuck}
 use Rattle.pad_core.proofs.push.release.Goals as goal
 
 pub refusal_of-requires : goal.refusal_of-requires
@@ -22,9 +22,9 @@ append-requires-clause-checked g c =
     (found_checked (is_ready (vector_of c.args.ledger.now)) c.args.held.now c.in-Some.op.now c.requires.held
     (sym c.in-Some.ensures))
 
-pub append-requires-clause-next : goal.append-requires-clause-next
-append-requires-clause-next g c =
-    ready_next (vector_of c.args.ledger.now) c.args.held.now c.in_ok-op.op (sym c.in-Some.ensures
+pub append-requires-clause-ready : goal.append-requires-clause-ready
+append-requires-clause-ready g c =
+    ready_found (vector_of c.args.ledger.now) c.args.held.now c.in_ok-op.op (sym c.in-Some.ensures
     ∙ ap Some (sym c.in_ok-op.ensures.cases))
 
 pub append-requires-clause-allowed : goal.append-requires-clause-allowed

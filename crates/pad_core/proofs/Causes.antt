@@ -41,8 +41,7 @@ unseen_from v (before ∷ log) more op h n t =
     counts_grow (counted v before) log origin wide in
     let number : before.name.number ≡ count_in v before.name.origin + 1 = n.0 in
     let here : count_in (counted v before) before.name.origin ≡ count_in v before.name.origin + 1 =
-    count_in-counted v before h in
-    (
+    count_in-counted v before h in (
       unseen v before op n.0 t.0
           (λ same. let there : count_in (counted v before) origin ≡ before.name.number =
           subst (λ o. count_in (counted v before) o ≡ before.name.number) (sym same)

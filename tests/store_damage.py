@@ -133,7 +133,7 @@ def before_its_causes():
     first, second = (texts[place] for place in places)
     first["op"], second["op"] = second["op"], first["op"]
     written(texts)
-    refused(1, f"p.pad: line {places[0] + 1}:", "is damaged")
+    refused(1, f"p.pad: line {places[0] + 1}: 403 PeerFault", "is damaged")
 
 
 def copied():

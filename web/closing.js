@@ -108,6 +108,7 @@ export class CloseQuestion {
   async close() {
     const { box } = this, { session } = box;
     this.ask(false);
+    this.button.focus();
     const close = async () => {
       if (!(await session.settle())) throw new Unsaved(session.pad.name);
       await session.close();

@@ -3,6 +3,7 @@ import { reason } from "./enter.js";
 import { guestBy, keepGuest } from "./guest_secrets.js";
 import { doubt, forgetLogIn, setPad, stayAsGuest } from "./log_in_link.js";
 import { $, fill, say } from "./page.js";
+import { NOT_JOINED } from "../clients/js/src/connection.js";
 import { newSecret } from "../clients/js/src/guests.js";
 import { WORDS } from "./words.js";
 
@@ -94,6 +95,6 @@ export class GuestDoor {
     try {
       const known = (await session.guests()).find(({ author }) => author === session.name);
       if (known?.name !== guest.as) await session.introduce(guest.as);
-    } catch (error) { this.isUnknown = !error.reply; }
+    } catch (error) { this.isUnknown = !error.reply || error.reply.code === NOT_JOINED; } // the pad was closed meanwhile
   }
 }

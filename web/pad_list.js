@@ -11,6 +11,9 @@ const MOST_ASKED = 100;
 // So many are shown at once: the last used here, or the first of those that a search finds.
 const MOST_SHOWN = 500;
 
+// A closed pad is read by those alone who may own it.
+export const isReadable = ({ isClosed, right }) => !isClosed || right === "own";
+
 // The pads with these letters in their names, and how many there are.
 export function found(pads, letters) {
   const all = pads.filter(({ name }) => name.includes(letters.toLowerCase()));
@@ -65,8 +68,8 @@ export class PadList {
   async askLast() {
     const asks = ++this.asks, { session } = this;
     for (const pad of this.pads.slice(0, MOST_ASKED)) {
-      const { name, now, right, isClosed } = pad;
-      if (!now || this.last.get(name)?.rev === now || (isClosed && right !== "own")) continue;
+      const { name, now } = pad;
+      if (!now || this.last.get(name)?.rev === now || !isReadable(pad)) continue;
       try {
         const { entries: [entry] } = await glance(session, name, { do: "entries", from: now, count: 1 });
         if (entry) { this.last.set(name, entry); this.displays.ask([entry.author]); }

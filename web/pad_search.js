@@ -2,6 +2,7 @@
 import { findAll } from "./finding.js";
 import { glance } from "./glance.js";
 import { $, element, say } from "./page.js";
+import { isReadable } from "./pad_list.js";
 import { WORDS } from "./words.js";
 
 const MOST_LINES = 5, BEFORE = 40, LONGEST = 160;
@@ -43,7 +44,7 @@ export class PadSearch {
     const number = this.searches;
     let places = 0;
     say($("texts-state"), WORDS.searching);
-    for (const { name } of pads) {
+    for (const { name } of pads.filter(isReadable)) {
       let text = "";
       try { ({ text } = await glance(this.session, name, { do: "text" })); } catch (error) {
         if (number === this.searches && !error.reply) { say($("texts-state"), ""); this.onFault(error); return; }

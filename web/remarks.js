@@ -183,9 +183,10 @@ export class Remarks {
 
   // Turns the mode on or off in which what is typed is a suggestion.
   suggest(is = !this.desk.editor.suggests) {
-    const { editor, notice } = this.desk;
+    const { editor, notice, session } = this.desk, lost = !is && !session.mayComment ? this.box.unsent : "";
     if (is && $("suggest").disabled) return;
     if (!is && this.box.isOpen) this.box.close();
+    if (lost) { session.kept.add(lost); notice.show(""); } // the pad was closed, or the right taken, while it was written
     editor.suggests = is;
     $("suggest").setAttribute("aria-pressed", String(is));
     document.body.classList.toggle("is-suggesting", is);

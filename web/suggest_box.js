@@ -41,6 +41,12 @@ export class SuggestBox {
     $("suggest-words").setSelectionRange(made.caret, made.caret);
   }
 
+  // What is being written, where it says something else than the text.
+  get unsent() {
+    const words = $("suggest-words").value, reason = $("suggest-reason").value.trim();
+    return this.isOpen && words !== this.had ? [words, reason].filter(Boolean).join("\n") : "";
+  }
+
   get had() { return this.textOf().slice(this.stretch.from, this.stretch.to); }
 
   // The text shows what is suggested.

@@ -3,7 +3,7 @@ import { named } from "./authors.js";
 import { splice } from "../clients/js/src/delta.js";
 import { glance } from "./glance.js";
 import { $, element } from "./page.js";
-import { TEMPLATE } from "./pad_list.js";
+import { TEMPLATE, isReadable } from "./pad_list.js";
 import { dayOf } from "./times.js";
 import { LABELS, TEMPLATES } from "./words.js";
 
@@ -11,7 +11,8 @@ const OWN = ["blank", "agenda", "minutesTemplate"];
 
 // Offers the templates, with those among these pads.
 export function offerTemplates(pads) {
-  const select = $("template"), chosen = select.value, names = pads.map(({ name }) => name).filter((name) => TEMPLATE.test(name));
+  const select = $("template"), chosen = select.value;
+  const names = pads.filter((pad) => TEMPLATE.test(pad.name) && isReadable(pad)).map(({ name }) => name);
   select.replaceChildren(
     ...OWN.map((key) => element("option", { value: key, textContent: LABELS[key] })),
     ...names.map((name) => element("option", { value: `#${name}`, textContent: name.slice("template-".length) })),

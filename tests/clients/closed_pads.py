@@ -186,6 +186,23 @@ async def main():
 asyncio.run(main())
 """
 
+LEFT = """
+async def main():
+    async with to("ann") as ann, to("bob") as bob:
+        hers, his = await begin(ann, bob)
+        await ann.close_pad()
+        his.append("one ")
+        await until(lambda: bob.state == "closed")
+        try:
+            await bob.create("q")
+        except vindrughe.Unsaved as error:
+            told(type(error).__name__)
+        async with asyncio.timeout(10):
+            await bob.leave()
+            told((await bob.create("q")).name, bob.state)
+asyncio.run(main())
+"""
+
 A_VISIT = """
 async def main():
     async with to("ann") as ann, to("bob") as bob:
@@ -235,6 +252,11 @@ def who_was_put_out_can_open_another_pad():
     want(lines[0], ["q", "saved", False, [["p", "write", 0, True], ["q", "own", 1, False]]], "the other pad, and the list")
 
 
+def who_was_put_out_with_unsent_words_leaves_them_first():
+    lines, _ = played(LEFT)
+    want(lines, [["Unsaved"], ["q", "saved"]], "another pad with unsent words in the closed one, and without that one")
+
+
 def a_connection_that_was_put_out_is_given_up_for_a_join():
     lines, _ = played(A_VISIT)
     want(lines, [[310], [[1, "again"]]], "a request of the visit that was ended, and the text of who has joined again")
@@ -243,7 +265,7 @@ def a_connection_that_was_put_out_is_given_up_for_a_join():
 FUNCTIONS = [
     pads_closes_and_reopens, an_edit_of_a_pad_that_was_closed_is_kept, pads_follows_a_pad_that_is_closed_and_opened_again,
     pads_says_that_an_older_server_closes_no_pads, words_of_who_was_put_out_are_sent_when_the_pad_is_open_again, a_visit_that_was_ended_is_no_end,
-    what_an_owner_types_on_a_closed_pad_is_kept_for_the_owner, who_was_put_out_can_open_another_pad,
+    who_was_put_out_with_unsent_words_leaves_them_first, what_an_owner_types_on_a_closed_pad_is_kept_for_the_owner, who_was_put_out_can_open_another_pad,
     a_connection_that_was_put_out_is_given_up_for_a_join,
 ]
 TESTS = [named(function, 120) for function in FUNCTIONS]

@@ -80,7 +80,8 @@ async function whoComes() {
   const error = await other.join(pad).catch((one) => one);
   tell("a closed pad opens for owners alone", error instanceof PadClosed && error.name === "PadClosed" && error.code === 330, String(error));
   tell("its name stays taken", (await code(other.create(pad))) === 301);
-  tell("who may not own it cannot open it", (await code(bob.session.pad.call({ do: "reopen" }))) === "Lost" && ann.session.isClosed);
+  const isClosed = async () => (await ann.session.pads()).find(({ name }) => name === pad).isClosed;
+  tell("who may not own it cannot open it", (await code(other.call({ do: "reopen", pad }))) === 310 && (await isClosed()));
   await ann.session.reopen();
   tell("once it is open, the same connection joins it", (await other.join(pad)).text === "one ");
   tell("who writes may not close it", (await code(other.close())) === 312 && !other.isClosed);

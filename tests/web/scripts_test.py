@@ -54,6 +54,10 @@ def nor_what_the_server_did_not_take():
     script(NODE, "kept_words_test.mjs")
 
 
+def nor_what_stands_in_a_pad_that_is_closed_at_a_bad_moment():
+    script(NODE, "closed_late_test.mjs")
+
+
 def threads_and_suggestions_come_once():
     script(NODE, "threads_test.mjs")
 
@@ -146,6 +150,7 @@ TESTS = [
     named(the_pages_show_what_a_model_of_the_server_has, 120),
     named(no_words_of_an_author_are_lost_by_the_page, 60),
     named(nor_what_the_server_did_not_take, 60),
+    named(nor_what_stands_in_a_pad_that_is_closed_at_a_bad_moment, 60),
     named(threads_and_suggestions_come_once, 60),
     named(looks_at_other_pads_disturb_no_pad_that_is_open, 60),
     named(minutes_are_what_markdown_says, 60),

@@ -87,9 +87,9 @@ export class Connection {
     this.wire = null;
   }
 
-  // Ends the connection for another one, and waits for that.
-  async renew() {
-    const { clock } = this, end = clock.now() + LONGEST;
+  // Ends the connection for another one, and waits for that, so many milliseconds at most.
+  async renew(most = LONGEST) {
+    const { clock } = this, end = clock.now() + most;
     this.wire?.drop();
     this.hurry();
     while (this.isLost && this.login && clock.now() < end) await pause(LOOK, clock);

@@ -16,7 +16,7 @@
 import { clock as realClock, pause } from "./clock.js";
 import { apply, applyRuns, compose, isEmpty } from "./delta.js";
 import { NOT_JOINED } from "./connection.js";
-import { Lost, LostRevisions, Misfit, Refused, Taken } from "./errors.js";
+import { Lost, LostRevisions, Misfit, PadClosed, Refused, Taken } from "./errors.js";
 import { Pad } from "./sync.js";
 import { UnsentComments } from "./unsent.js";
 
@@ -181,6 +181,7 @@ export class Drafts {
       if (wire === session.wire) await session.rejoin(pad); // over another connection, that is done where it was made
     } catch (error) {
       if (error instanceof Lost) return; // it is tried again
+      if (error instanceof PadClosed) { session.shut(); return; } // so is this, now and then
       session.hangUp();
       session.isLost = true;
       throw error;

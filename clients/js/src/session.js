@@ -18,6 +18,8 @@ import { joinFirst, joinInstead } from "./visits.js";
 
 // How long what is not sent yet may take before a pad is left.
 const SETTLE = 5000, LOOK = 20;
+// And how long a connection without the pad may take, before the list of pads says that there is none.
+const BRIEF = 2000;
 // Refusals that no edit gets if the server has the page's text: no such revision, and a place behind its end.
 const UNFIT = [320, 321];
 // Refusals that tell of something new: the right is another one, or the pad is closed.
@@ -203,6 +205,7 @@ export class Session extends Connection {
     } catch (error) {
       await this.drafts.release([...others, note].filter(Boolean));
       await this.call({ do: "leave", pad: name }).catch(NOTHING);
+      if (error.reply?.code === NOT_JOINED) return this.enterAs(entry, "join", name); // it was closed meanwhile, and a join says so
       throw error;
     }
     this.follow(pad, note, others);
@@ -243,7 +246,7 @@ export class Session extends Connection {
     this.comments = new Comments(pad, unsent, whenOpen(() => this.tell("comments")));
     this.kept.leave();
     this.caret.forget();
-    Object.assign(this, { pad, right: note?.right ?? "none", rights: [], cells: 0, isClosed: false, heldBy: null, refusal: null, keptAt: note?.time ?? 0 });
+    Object.assign(this, { pad, right: note?.right ?? "none", rights: [], cells: 0, isClosed: false, isShut: false, heldBy: null, refusal: null, keptAt: note?.time ?? 0 });
     this.kept.addMissing(note?.kept ?? []);
     for (const { from, to, text, sent } of note?.comments ?? []) unsent.add(from, to, text, sent);
     this.drafts.follow(pad, note, others);
@@ -299,7 +302,7 @@ export class Session extends Connection {
     this.pulse.stop();
     Object.assign(this, { pad: null, heldBy: null, isClosed: false });
     await this.drafts.leave(isLost);
-    if (this.isShut) await this.renew(); // without the pad, nothing is in the way
+    if (this.isShut) await this.renew(BRIEF); // without the pad, nothing is in the way
     try { await this.call({ do: "leave", pad: pad.name }); } catch { /* the visit ends with the connection at the latest */ }
   }
 
@@ -438,6 +441,7 @@ export class Session extends Connection {
       this.kept.add(text);
       this.tell("refused", reply, text);
     }
+    if (NEWS.includes(reply.code)) this.readRights().catch(NOTHING);
     this.tell("state");
     return isPassing;
   }

@@ -229,8 +229,7 @@ class OpenPad:
             for at, words in pieces:
                 self._session.kept.add(words, at)
             self.tell(WordsRefused(refusal, "\n".join(words for _, words in pieces)))
-        if refusal.code == _DENIED or isinstance(refusal, PadClosed):
-            self.beside(self.read_rights)
+        self._look_for_news(refusal)
         self.tell(StateChanged())
 
     # ---- what the pad tells
@@ -303,5 +302,11 @@ class OpenPad:
             self.refusal = refusal
             self._session.kept.add(text)
             self.tell(WordsRefused(refusal, text))
+        self._look_for_news(refusal)
         self.tell(StateChanged())
         return is_passing
+
+    def _look_for_news(self, refusal: Refused) -> None:
+        """The right is another one, or the pad is closed."""
+        if refusal.code == _DENIED or isinstance(refusal, PadClosed):
+            self.beside(self.read_rights)

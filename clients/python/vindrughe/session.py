@@ -210,7 +210,6 @@ class Session(Connection):
             if self.pad and not await self.settle():
                 raise Unsaved(f"{self.pad.name} has changes that are not sent")
             await self.leave()
-            await self._connected()
             go_on()
             opened = OpenPad(self, name, await self._begin_visit(do, name))
             try:
@@ -264,6 +263,8 @@ class Session(Connection):
         opened, self._open = self._open, None
         if opened:
             await opened.close()
+            if opened.is_shut:
+                await self._connected()  # without the pad, nothing is in the way
             await self._leave(opened.pad.name)
 
     async def _leave(self, name: str) -> None:

@@ -240,6 +240,24 @@ def leaves(test):
     check("and comes in when it is open, over the same connection", bob.open("minutes") and bob.is_saved(), (bob.state, bob.get("open-error").text))
 
 
+def suggests(test):
+    """Who writes a suggestion when the pad is closed has its words still."""
+    ann, bob, check = test.ann, test.bob, test.check
+    bob.click("suggest")
+    until(lambda: bob.get("suggest").get_attribute("aria-pressed") == "true")
+    bob.select(0, 3)
+    bob.keys("Other words")
+    until(lambda: bob.get("suggest-words").get_property("value") == "Other words")
+    close(ann)
+    kept = lambda: bob.get("notice").is_displayed() and bob.get("notice-words").text
+    check("a suggestion that was being written is kept", is_shut(bob) and until(lambda: kept() == "Other words") and not bob.get("suggest-box").is_displayed(), (bar(bob), kept()))
+    test.shot(bob, "kept-suggestion")
+    bob.click("notice-dismiss")
+    reopen(ann)
+    bob.click("reopen")
+    check("and the pad goes on without it", until(lambda: not bar(bob) and bob.run(MAY_TYPE)) and bob.is_saved() and bob.text == ann.text and bob.get("suggest").get_attribute("aria-pressed") == "false", (bar(bob), bob.state))
+
+
 def speaks(test):
     """In each language, on a phone."""
     ann, bob, check = test.ann, test.bob, test.check
@@ -273,7 +291,7 @@ def play(program, folder, tally):
         test = None
         try:
             test = Trial(server, folder, tally, ("ann", "bob", "cyd"))
-            for part in (begins, asks_first, closes, looks, goes_on, second_owner, loads_again, leaves, speaks, older):
+            for part in (begins, asks_first, closes, looks, goes_on, second_owner, loads_again, leaves, suggests, speaks, older):
                 part(test)
         finally:
             if test:

@@ -27,7 +27,8 @@ export class GuestDoor {
   // link.
   begin({ pad, link, own, as }) {
     const known = guestBy(pad, link);
-    this.guest = { pad, link, own: own ?? known?.own ?? newSecret(), as: as ?? known?.as ?? "" };
+    // (the name may have been corrected in another tab since)
+    this.guest = { pad, link, own, as: (known && (!own || known.own === own) ? known.as : as) ?? "" };
     fill($("guest-name"), this.guest.as);
     return as ? this.comeIn() : this.show();
   }
@@ -45,8 +46,9 @@ export class GuestDoor {
   }
 
   show(fault = "") {
-    for (const id of ["log-in", "choose", "here", "pad-name", "log-out", "work", "tools", "tools-button", "log-in-again"]) $(id).hidden = true;
+    for (const id of ["log-in", "choose", "here", "pad-name", "work", "tools", "tools-button", "log-in-again"]) $(id).hidden = true;
     for (const id of ["enter", "guest"]) $(id).hidden = false;
+    $("log-out").hidden = !this.session.login;
     say($("state"), "");
     say($("guest-pad"), WORDS.guestOf(this.guest.pad));
     say($("guest-error"), fault);
@@ -64,6 +66,7 @@ export class GuestDoor {
     const { session, guest } = this, as = nameOf($("guest-name").value);
     if (!as) { this.show(WORDS.guestUnnamed); return; }
     guest.as = as;
+    guest.own ??= guestBy(guest.pad, guest.link)?.own ?? newSecret(); // of another tab that came in meanwhile, or a new one
     if (session.isOver) { stayAsGuest(guest); setPad(guest.pad); location.reload(); return; }
     for (const id of ["log-in", "guest", "kept", "choose"]) $(id).hidden = true;
     say($("state"), WORDS.connecting);

@@ -7,6 +7,8 @@ import { $, element, say } from "./page.js";
 import { timeOf } from "./times.js";
 import { WORDS } from "./words.js";
 
+const unsentOf = (notes) => notes.filter(({ isUnsent, isElsewhere }) => isUnsent && !isElsewhere).map(({ pad }) => pad);
+
 export class KeptPads {
   // `onPad` is called once a pad is open.
   constructor(session, store, { onPad }) { Object.assign(this, { session, store, onPad }); }
@@ -27,16 +29,22 @@ export class KeptPads {
   }
 
   async open({ id, me, pad }) {
-    say($("log-in-error"), "");
+    const fault = $($("guest").hidden ? "log-in-error" : "guest-error");
+    say(fault, "");
     setOrigin(me);
     if (await this.session.openKept(id)) this.onPad();
-    else say($("log-in-error"), WORDS.keptElsewhere(pad));
+    else say(fault, WORDS.keptElsewhere(pad));
   }
 
-  // The author logs out.
-  async forget() { try { await this.store.forget(this.session.name); } catch { /* nothing is kept */ } }
+  // The author logs out. What guests have kept goes, too, since their secrets do, without which nobody can send it.
+  async forget() {
+    for (const { name } of await this.ofLeaving()) try { await this.store.forget(name); } catch { /* nothing is kept */ }
+  }
+
+  async ofLeaving() { return (await this.list()).filter(({ name }) => name === this.session.name || isGuest(name)); }
+  async unsentOnLeaving() { return unsentOf(await this.ofLeaving()); }
 
   // What is kept of the author's pads; and the names of those of which something is not sent in no window that is open.
   async ofAuthor() { return (await this.list()).filter(({ name }) => name === this.session.name); }
-  async unsent() { return (await this.ofAuthor()).filter((note) => note.isUnsent && !note.isElsewhere).map(({ pad }) => pad); }
+  async unsent() { return unsentOf(await this.ofAuthor()); }
 }

@@ -163,7 +163,7 @@ export class LogIn {
   async logOut(isForced = false) {
     const isOpen = this.session.pad !== null;
     if (isOpen && !(await this.leave())) return;
-    const unsent = isForced ? [] : await this.kept.unsent();
+    const unsent = isForced ? [] : await this.kept.unsentOnLeaving();
     if (unsent.length) {
       if (isOpen) await this.enter.show();
       this.onUnsent(WORDS.unsentPads(unsent.join(", ")));

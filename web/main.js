@@ -8,7 +8,7 @@ import { KeysBox } from "./keys_box.js";
 import { offerLanguages } from "./language.js";
 import { LogIn } from "./log_in.js";
 import { Machines } from "./machines.js";
-import { $, label, later } from "./page.js";
+import { $, label, later, say } from "./page.js";
 import { LostRevisions, Taken } from "../clients/js/src/errors.js";
 import { Session } from "../clients/js/src/session.js";
 import { tellIfUnproved } from "./unproved.js";
@@ -37,6 +37,7 @@ const logIn = new LogIn(session, {
 });
 new KeysBox();
 offerLanguages(() => {
+  if (!$("guest").hidden) say($("guest-pad"), WORDS.guestOf(enter.door.guest.pad));
   if (session.login && !logIn.loggingIn) enter.show(); else if (!logIn.loggingIn) kept.show();
   tellIfUnproved();
   machines.draw();

@@ -47,7 +47,11 @@ export class RightsBox {
     $("invite-link").addEventListener("focus", () => $("invite-link").select());
     $("invite-copy").addEventListener("click", () => this.copy());
     $("rights-box").addEventListener("close", () => this.showLink(""));
-    $("hand-no").addEventListener("click", () => this.ask(null));
+    $("hand-no").addEventListener("click", () => {
+      const label = WORDS.handTo(shown(this.heir));
+      this.ask(null);
+      this.focus(label);
+    });
     $("hand-yes").addEventListener("click", () => this.hand(this.heir));
   }
 
@@ -74,8 +78,13 @@ export class RightsBox {
     this.closing.draw();
     const isOpen = rights.some(([name]) => name === EVERYONE), rows = rights.map((entry, k) => this.row(entry, k === 0));
     if (this.mayGive && !isOpen) rows.splice(1, 0, this.row([EVERYONE, "none"], false));
-    $("rights-list").replaceChildren(...rows);
+    const list = $("rights-list"), held = list.contains(document.activeElement) ? document.activeElement.getAttribute("aria-label") : null;
+    list.replaceChildren(...rows);
+    this.focus(held);
   }
+
+  // The keyboard is on what has this label, in the rows that were drawn anew.
+  focus(label) { if (label) [...$("rights-list").querySelectorAll("select, button")].find((one) => one.getAttribute("aria-label") === label)?.focus(); }
 
   // On a closed pad no right is changed.
   get mayGive() { return this.session.right === "own" && !this.session.isClosed; }

@@ -316,7 +316,32 @@ async function givenUp() {
   world.end();
 }
 
+const RUNS = '[["bob@1",7],["ann@1",6]]';
+const runsOf = async (world, { session }) => JSON.stringify((await world.clock.finish(session.pad.call({ do: "runs" }))).runs);
+
+// What ann has kept is opened where another author is logged in, as at the door of a guest whose pad did not open.
+async function openedByAnother() {
+  const { world, bob, disk, ann } = await begin("one two");
+  await world.clock.finish(bob.session.grant("cid", "write"));
+  await offline({ world }, ann);
+  ann.type(ann.shown.length, 0, " three");
+  await world.advance(SECOND);
+  world.kill(ann);
+  world.network.isDown = false;
+  const [note] = [...disk.notes.values()], cid = await world.page("cid", null, { store: disk.window() }), { session } = cid;
+  await offline({ world }, cid);
+  await world.clock.finish(session.openKept(note.id));
+  tell("a kept pad that is opened beside a log-in is nobody's at first", session.login === null && session.isAway && session.name === "ann" && session.pad.text === "one two three", session.me);
+  world.network.isDown = false;
+  await world.advance(60 * SECOND);
+  tell("nothing of it is sent by who was logged in", world.text() === "one two", world.text());
+  await world.clock.finish(session.logInAgain("tann"));
+  await world.advance(5 * SECOND);
+  tell("its author sends it", session.state === "saved" && world.text() === "one two three" && (await runsOf(world, bob)) === RUNS, `${session.state}: ${await runsOf(world, bob)}`);
+  world.end();
+}
+
 await tally.run([
   typedOffline, killedWhileSending, keptBeforeSent, comments, otherPast, lostRight, twoWindows, brokenMerge, others, openedOffline, taken,
-  renumbered, givenUp,
+  renumbered, givenUp, openedByAnother,
 ]);

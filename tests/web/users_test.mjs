@@ -4,6 +4,8 @@
 //
 // The last line is `N passed, M failed`.
 import { Connection } from "../../clients/js/src/connection.js";
+import { Lost } from "../../clients/js/src/errors.js";
+import { author, user } from "../../web/user.js";
 import { Tally } from "./pages.mjs";
 
 const tally = new Tally(), { tell } = tally;
@@ -57,6 +59,27 @@ await tally.run([
     server.channels[0].onclose();
     await new Promise((done) => { page.onState = () => { if (!page.isLost) done(); }; });
     tell("a user is back after the connection was lost", page.me === "ann@1" && server.hellos.length === 2, page.me);
+  },
+  async () => {
+    const { server, page } = begin("ann"), { user: who } = page;
+    let asked = 0;
+    page.user = async () => { if (++asked === 2) throw new Lost("no answer"); return who(); };
+    await page.logIn("ann", "");
+    server.channels[0].onclose();
+    await new Promise((done) => { page.onOver = done; page.onState = () => { if (!page.isLost) done(); }; });
+    tell("also where the proxy did not answer at first", page.me === "ann@1" && !page.isOver && !page.isLost && asked === 3, `${page.me}, asked ${asked} times`);
+  },
+  async () => {
+    const answers = [[200, '{"author":"ann@1"}'], [200, "{}"], [404, ""], [403, "Who is this?"], [502, ""], [503, ""]], said = [];
+    for (const [status, body] of answers) {
+      globalThis.fetch = async () => new Response(body, { status });
+      said.push(await author().catch((error) => error.constructor.name));
+    }
+    tell("a proxy that does not answer has logged nobody else in", said.join() === "ann@1,,,,Lost,Lost", said.join());
+    globalThis.fetch = async () => { throw new TypeError("no network"); };
+    tell("nor has one that is not reached", (await author().catch((error) => error.constructor.name)) === "Lost");
+    globalThis.fetch = async () => new Response("Who is this?", { status: 403 });
+    tell("a user who is nobody is told why", (await user()).words === "Who is this?");
   },
   async () => {
     const { server, page } = begin("ann"), ends = over(page);

@@ -165,6 +165,7 @@ export class Drafts {
   async openKept(id) {
     const { session } = this, note = await this.store.open(id).catch(() => null);
     if (!note) return null;
+    if (session.login) session.logOut(); // what is kept is sent by nobody but its author
     Object.assign(session, { me: note.me, isLost: true });
     const pad = session.padOf(note.pad, note.visit);
     adopt(pad, note);

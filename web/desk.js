@@ -192,6 +192,7 @@ export class Desk {
   // Leaves the pad once everything is sent, or is kept until it can be. Words that cannot be sent in some seconds keep it here, and words
   // that were refused and not copied, unless the author has decided to lose them. Resolves to whether the pad is left.
   async close(isForced = false) {
+    if (this.editor.suggests) this.remarks.suggest(false); // what is being written there is kept
     const { session } = this, { pad } = session, isSettled = isForced || (session.isShut && session.drafts.areKept) || await session.settle();
     if (!pad || pad !== session.pad) return false;
     if (!isSettled) { this.showUnsaved(); return false; }

@@ -125,14 +125,17 @@ export class FindBar {
   // ---- replacing
 
   replace() {
+    const had = this.current?.from;
+    this.search(); // others may have typed since the last one
     const { current } = this, { editor } = this.source(), words = $("replace-words").value;
-    if (!current || !editor) return;
+    if (!current || !editor || current.from !== had) return;
     editor.put([[current.from, current.to - current.from, words]]);
     this.search(current.from + words.length);
   }
 
   // All at once, as one step of undo.
   replaceAll() {
+    this.search();
     const { editor } = this.source(), { found } = this, words = $("replace-words").value;
     if (!found.length || !editor) return;
     this.said = WORDS.replaced(found.length); // until something else is asked

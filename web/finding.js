@@ -5,7 +5,7 @@ const MOST = 10000;
 export function findAll(text, words, isExact = false) {
   const out = [];
   if (!words) return out;
-  const form = new RegExp(words.replace(/[\\^$.*+?()[\]{}|/-]/g, "\\$&"), isExact ? "gu" : "giu");
+  const form = new RegExp(words.replace(/[\\^$.*+?()[\]{}|/]/g, "\\$&"), isExact ? "gu" : "giu");
   for (const { index, 0: { length } } of text.matchAll(form)) {
     out.push({ from: index, to: index + length });
     if (out.length === MOST) break;

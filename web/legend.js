@@ -11,7 +11,7 @@ export class Legend {
   constructor() { Object.assign(this, { key: null, resting: null }); }
 
   // What was drawn of another pad can look the same by its key.
-  forget() { this.key = null; }
+  forget() { this.key = null; clearTimeout(this.resting); say($("writer"), ""); }
 
   draw({ text, runs }) {
     const sizes = new Map(), whole = text.length;

@@ -158,7 +158,9 @@ export class Past {
     this.stop();
     const other = Number($("compare-rev").value), { rev } = this.shown;
     try {
-      this.compared = await this.history.compare(Math.min(other, rev), Math.max(other, rev));
+      const compared = await this.history.compare(Math.min(other, rev), Math.max(other, rev));
+      if (this.shown?.rev !== rev) return;
+      this.compared = compared;
     } catch (error) { say($("rev-made"), reason(error)); return; }
     say($("compare-go"), LABELS.endCompare);
     $("past").classList.add("is-compared");

@@ -183,10 +183,10 @@ export class Remarks {
 
   // Turns the mode on or off in which what is typed is a suggestion.
   suggest(is = !this.desk.editor.suggests) {
-    const { editor, notice, session } = this.desk, lost = !is && !session.mayComment ? this.box.unsent : "";
+    const { editor, notice, session } = this.desk, lost = is ? "" : this.box.unsent;
     if (is && $("suggest").disabled) return;
     if (!is && this.box.isOpen) this.box.close();
-    if (lost) { session.kept.add(lost); notice.show(""); } // the pad was closed, or the right taken, while it was written
+    if (lost) { session.kept.add(lost); notice.show(""); } // the pad was closed, the right taken, or the history opened meanwhile
     editor.suggests = is;
     $("suggest").setAttribute("aria-pressed", String(is));
     document.body.classList.toggle("is-suggesting", is);
@@ -224,7 +224,7 @@ export class Remarks {
     this.mentions.note(news);
     const [{ id, author }] = news;
     this.desk.notice.show(WORDS.addressed(news.length, named(author)), { onSee: () => {
-      this.desk.notice.hide();
+      this.desk.notice.takeBack(this.desk.notice.text);
       document.getElementById(this.all.find((one) => one.id === id || one.replies.some((other) => other.id === id))?.id)?.focus();
       if (session.pad) this.desk.place();
     } });

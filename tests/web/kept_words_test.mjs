@@ -202,7 +202,23 @@ async function writersCaret() {
   world.end();
 }
 
+// What a refusal has brought back, an undo does not bring back once more.
+async function undoneAfterRefusal() {
+  const world = new World(), [ann] = await world.open("one two three", "ann"), { pad } = ann.session;
+  world.server.most = 8;
+  ann.type(4, 3, "far too many letters");
+  await world.until(() => kept(ann) !== "");
+  tell("words whose replacement was refused are there again", ann.shown === "one two three", ann.shown);
+  for (const act of ["undo", "undo", "redo"]) {
+    pad[act]();
+    await world.advance(2 * SECOND);
+  }
+  tell("an undo brings them back once", !pad.text.includes("twotwo") && pad.text.split("two").length <= 2 && pad.text === world.text(), pad.text);
+  world.end();
+}
+
 const TESTS = [
   commentsOffline, commentUnsaved, commentAnswerLost, commentRefused, refusedWords, refusedWhileTyping, refusedByFullPad, twoWindows, whoseWords, writersCaret,
+  undoneAfterRefusal,
 ];
 await tally.run(TESTS);

@@ -239,6 +239,8 @@ function linesFound() {
   tell("of a long line, the part around it is told", found[2].words.length, 160);
   tell("so many lines at most", linesWith("a\n".repeat(50), "a", 3).map(({ number }) => number), [1, 2, 3]);
   tell("nothing is found where nothing is asked for", linesWith(text, ""), []);
+  const signs = Array.from({ length: 95 }, (_, code) => String.fromCharCode(32 + code)).filter((sign) => sign.trim());
+  tell("any sign is found", signs.filter((sign) => linesWith(`an e${sign}mail`, `e${sign}m`).length !== 1), []);
 }
 
 // Every module is named in the document, so that a browser fetches all of them at once, and not one behind the other.

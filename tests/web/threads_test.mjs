@@ -41,6 +41,9 @@ function threads() {
   const comment = (number, text) => ({ name: [1, number], text }), shown = (list) => threadsOf(list).map(({ text, replies }) => [text, ...replies.map((one) => one.text)]);
   const list = [comment(1, "a"), comment(2, "Reply to [1,1]: b"), comment(3, "c"), comment(4, "Reply to [1,2]: d"), comment(5, "Reply to [9,9]: e"), { name: undefined, text: "Reply to [1,3]: f" }];
   same("replies are shown with what they reply to", shown(list), [["a", "b", "d"], ["c", "f"], ["Reply to [9,9]: e"]]);
+  const chain = Array.from({ length: 4000 }, (_, number) => comment(number + 1, number ? `Reply to [1,${number}]: ${number}` : "first")), began = process.cpuUsage().user;
+  same("a long chain of replies is one thread", shown(chain).map((thread) => thread.length), [4000]);
+  same("which takes no second", process.cpuUsage().user - began < 1_000_000, true);
   same("a ring of replies is two comments", shown([comment(1, "Reply to [1,2]: a"), comment(2, "Reply to [1,1]: b")]).flat().length, 2);
 }
 

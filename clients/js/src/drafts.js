@@ -15,12 +15,12 @@
 // and `newId()`. What is put may be read later, and is never changed.
 import { clock as realClock, pause } from "./clock.js";
 import { apply, applyRuns, compose, isEmpty } from "./delta.js";
-import { NOT_JOINED } from "./connection.js";
+import { NOT_JOINED, PASSING } from "./connection.js";
 import { Lost, LostRevisions, Misfit, PadClosed, Refused, Taken } from "./errors.js";
 import { Pad } from "./sync.js";
 import { UnsentComments } from "./unsent.js";
 
-const TEXT_EVERY = 5000, MOST_STEPS = 200, MOST_WRITES = 4, LOOK = 50;
+const TEXT_EVERY = 5000, MOST_STEPS = 200, MOST_WRITES = 4, LOOK = 50, AGAIN = 5000;
 
 // Nothing is kept.
 const NOTHING = async () => {};
@@ -202,7 +202,8 @@ export class Drafts {
     const turn = ++this.turn, goesOn = () => turn === this.turn;
     while (this.others.length && goesOn()) {
       const [other] = this.others, words = await other.send(pad.visit, goesOn);
-      if (!words || !goesOn()) return;
+      if (!goesOn()) return;
+      if (!words) { await pause(AGAIN, this.session.clock); continue; } // the server has no room just now
       this.others.shift();
       for (const lost of words) this.session.kept.add(lost);
       if (words.length) this.session.tell("returned");
@@ -225,14 +226,14 @@ class Other {
       name: note.pad, me: note.me, ask, clock, pace, keep: () => this.draft.keep(),
       onBase: (delta) => this.draft.moved(delta), onShow: (delta) => this.unsent.move(delta),
     });
-    this.unsent = new UnsentComments(this.pad, { clock, onMade: () => {}, onRefused: (reply, text) => { said.push(text); } });
+    this.unsent = new UnsentComments(this.pad, { clock, onMade: () => {}, onRefused: ({ code }, text) => PASSING.includes(code) || !said.push(text) });
     adopt(this.pad, note);
     for (const { from, to, text, sent } of note.comments) this.unsent.add(from, to, text, sent);
     this.draft.pad = this.pad;
   }
 
-  // Resolves to the words that could not be sent; to null if the connection or the visit has ended, or the pad was left, before all
-  // was sent.
+  // Resolves to the words that could not be sent; to null if the connection or the visit has ended, the pad was left, or the server
+  // has no room for a while, before all was sent.
   async send(visit, goesOn) {
     const { pad, unsent, note, said, session: { me, clock } } = this;
     try {
@@ -242,7 +243,7 @@ class Other {
       while ((pad.isUnsent || unsent.list.length) && goesOn()) await Promise.race([pause(LOOK, clock), ...runs]);
       return goesOn() ? [...note.kept, ...said] : null;
     } catch (error) {
-      if (error.reply?.code === NOT_JOINED || ![Refused, Misfit, LostRevisions].some((kind) => error instanceof kind)) return null;
+      if ([NOT_JOINED, ...PASSING].includes(error.reply?.code) || ![Refused, Misfit, LostRevisions].some((kind) => error instanceof kind)) return null;
       return [pad.unsentWords, ...unsent.giveUp(), ...note.kept, ...said].filter((words) => words.trim());
     } finally {
       pad.stop();

@@ -311,6 +311,7 @@ export class Pad {
     const { base, baseRuns, flight, pending } = this, pieces = insertedBy(pending);
     const back = restoring(pending, apply(base, flight ?? []), applyRuns(baseRuns, flight ?? []));
     this.pending = [];
+    if (pending.some((step) => step.drop)) this.steps = new Undo(this.me, this.clock); // an undo would bring back once more what comes back here
     this.receive(back);
     this.keep();
     return pieces;

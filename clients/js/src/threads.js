@@ -47,14 +47,14 @@ export const addressed = (text) => [...new Set([...text.matchAll(NAME)].map(([, 
 // Comments with those that reply to them: { ...comment, replies }. A reply to a reply is one to the first comment, and one to a
 // comment that is not there is a comment of its own. Whoever resolves a comment resolves its thread.
 export function threadsOf(comments) {
-  const byName = new Map(comments.filter(({ name }) => name).map((comment) => [comment.name.join(), comment])), threads = new Map();
+  const byName = new Map(comments.filter(({ name }) => name).map((comment) => [comment.name.join(), comment])), threads = new Map(), roots = new Map();
   const rootOf = (comment) => {
-    for (let one = comment, steps = 0; ; steps++) {
-      const parent = byName.get(replyIn(one.text)?.to.join());
-      if (!parent) return one;
-      if (steps > comments.length) return comment; // they reply to one another
-      one = parent;
-    }
+    const way = [];
+    let one = comment;
+    for (let parent; way.length <= comments.length && !roots.has(one) && (parent = byName.get(replyIn(one.text)?.to.join())); one = parent) way.push(one);
+    const isRing = way.length > comments.length, root = roots.get(one) ?? one; // in a ring, they reply to one another
+    for (const each of way) roots.set(each, isRing ? each : root);
+    return isRing ? comment : root;
   };
   for (const comment of comments) if (rootOf(comment) === comment) threads.set(comment, { ...comment, replies: [] });
   for (const comment of comments) {

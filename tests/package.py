@@ -1,7 +1,8 @@
 """The script `package`: what is in a release, and that its programs serve where there is no toolchain.
 
 It makes a release of a clone of this repository, with the programs that are built here, and one of a few files with a
-toolchain of a line, of which it refuses what is not committed, or not built.
+toolchain of a line, of which it refuses what is not committed, or not built. Where a release has to fail before it makes
+anything, scripts stand for the programs.
 """
 import hashlib
 import os
@@ -27,17 +28,24 @@ def run(*words, folder="clone"):
     return subprocess.run(words, cwd=folder, env=environment, capture_output=True, text=True)
 
 
-def make_clone():
-    """A clone whose state is committed, and behind that the programs."""
+def put_script(path, text):
+    put_files([(path, f"#!/bin/sh\n{text}\n")])
+    os.chmod(path, 0o755)
+
+
+def make_clone(program=None):
+    """A clone whose state is committed, and behind that the programs: those that are built here, or a script in place of each."""
     os.mkdir("bin")
-    put_files([("bin/rt", f"#!/bin/sh\necho '{KIT}'\n")])
-    os.chmod("bin/rt", 0o755)
+    put_script("bin/rt", f"echo '{KIT}'")
     want(run("git", "clone", "-q", ROOT, "clone", folder=".").returncode, 0, "the status of git clone")
     for name in SCRIPTS:
         shutil.copy(f"{ROOT}/{name}", f"clone/{name}")
     commit()
     for name in PROGRAMS:
         os.makedirs(f"clone/crates/{name}/out")
+        if program:
+            put_script(f"clone/crates/{name}/out/{name}", program)
+            continue
         shutil.copyfile(path_of(name), f"clone/crates/{name}/out/{name}")
         os.chmod(f"clone/crates/{name}/out/{name}", 0o755)
 
@@ -193,6 +201,27 @@ def what_is_not_committed_or_built_is_refused():
     refused("package: this folder is no git repository: the commit is not known")
 
 
+PROGRAM = "echo program 0.1.0"
+LIBRARIES = """if [ "$1" = -T ]; then echo '0 DF *UND* 0 (GLIBC_2.34) puts'; else echo '  NEEDED  libc.so.6'; fi"""
+
+
+def a_failure_ends_it_with_a_message():
+    make_clone(PROGRAM)
+    put_script("bin/objdump", LIBRARIES)
+    for tool, text, usual, message in [
+        ("objdump", LIBRARIES.replace("libc.so.6", "libother.so.1"), LIBRARIES, "the programs need libother.so.1, and no package is known for it"),
+        ("objdump", "exit 1", LIBRARIES, "objdump cannot read the programs"),
+        ("objdump", LIBRARIES.replace("GLIBC", "OTHER"), LIBRARIES, "the programs do not name the version of libc6 that they need"),
+        ("rt", "exit 3", f"echo '{KIT}'", "the version of the kit is not known: rt version has failed"),
+        ("rt", "exit 0", f"echo '{KIT}'", "the version of the kit is not known: rt version has failed"),
+    ]:
+        put_script(f"bin/{tool}", text)
+        done = run("./package", "--to", f"{os.getcwd()}/made")
+        want((done.returncode, done.stdout, done.stderr), (1, "", f"package: {message}\n"), f"how package ends where {tool} is {text!r}")
+        want(os.path.exists("made"), False, "that something is made")
+        put_script(f"bin/{tool}", usual)
+
+
 def words_are_refused():
     for words, status, part in [
         (["--to"], 2, "package: --to needs a folder"),
@@ -208,5 +237,6 @@ TESTS = [
     Test("package: a release has its sums, and serves without a toolchain", a_release_serves, 300),
     Test("package: a release is made twice the same", a_release_is_made_twice_the_same, 300),
     Test("package: what is not committed or built is refused", what_is_not_committed_or_built_is_refused, 60),
+    Test("package: a failure ends it with a message", a_failure_ends_it_with_a_message, 120),
     Test("package: wrong words", words_are_refused),
 ]

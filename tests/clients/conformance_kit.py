@@ -5,7 +5,7 @@ import shutil
 import subprocess
 from concurrent.futures import ThreadPoolExecutor
 
-from harness import ROOT, Failed, want
+from harness import ROOT, Failed, put_files, want
 from js_client import named
 from scripts_test import NODE, PYTHON
 
@@ -86,6 +86,25 @@ def the_kit_finds_mistakes_that_are_planted():
         raise Failed("; ".join(missed))
 
 
+def a_client_that_does_nothing_fails():
+    """It answers each command that it does not do that."""
+    put_files([("nothing.py", "import sys\nfor line in sys.stdin:\n    print('{\"unsupported\":true}', flush=True)\n")])
+    status, lines, _ = play([PYTHON, "nothing.py"])
+    failed = [line for line in lines if re.fullmatch(r"FAILED .*: the client does not show", line)]
+    want((status, lines[-1], len(failed) >= 30), (1, f"0 passed, {len(failed)} failed", True), f"how the cases end: {lines}")
+
+
+def a_client_need_not_make_comments():
+    command = plant(len(MISTAKES), "session.py", "import asyncio\n", "import asyncio\n")
+    with open(command[1], encoding="utf-8") as file:
+        program = file.read()
+    put_files([(command[1], program.replace('    if do == "show":\n', '    if do.startswith("comment"):\n        return {"unsupported": True}\n    if do == "show":\n'))])
+    status, lines, said = play(command, "--only", "comment", "--only", "what is typed is sent")
+    left_out = [line for line in lines if line.startswith("left out ")]
+    due = [f"{len(left_out)} left out, which are neither passed nor failed", "1 passed, 0 failed"]
+    want((status, len(left_out) >= 3, lines[-2:], "ok     what is typed is sent" in lines), (0, True, due, True), f"how the cases end: {lines} {said[-500:]}")
+
+
 def a_wrong_command_line_is_told():
     for words in ([], ["--list", "--only", "no such case"], ["--"]):
         done = subprocess.run([PYTHON, f"{KIT}/run", *words], capture_output=True, text=True, env=ENVIRONMENT)
@@ -97,6 +116,8 @@ TESTS = [
     named(the_library_for_javascript_conforms, 120),
     named(the_library_for_python_conforms, 120),
     named(the_kit_finds_mistakes_that_are_planted, 120),
+    named(a_client_that_does_nothing_fails, 60),
+    named(a_client_need_not_make_comments, 60),
     named(a_wrong_command_line_is_told, 20),
 ]
 

@@ -2,17 +2,18 @@
 from __future__ import annotations
 
 import argparse
+import asyncio
 import json
 import sys
 from collections.abc import Iterator
 from pathlib import Path
 from typing import Any
 
-from vindrughe import Refused, Session
+from vindrughe import PadError, Refused, Session
 
 from .author_names import names_for, slug
 from .etherpad import BEGIN, Export, read
-from .failure import Failure, Status
+from .failure import Failure, Status, message_of
 from .opening import Connected
 from .operations import Operation, Replay
 from .peer import peer_of
@@ -53,8 +54,12 @@ async def import_file(connected: Connected, settings: Settings, asked: argparse.
     text, pad = _text_of(asked.file), _pad_of(asked)
     async with connected(0) as session:
         opened = await session.create(pad)
-        opened.append(text)
-        rev = await saved(session, asked.patience)
+        try:
+            opened.append(text)
+            rev = await saved(session, asked.patience)
+        except (Failure, PadError, asyncio.CancelledError) as error:
+            reason = "it was interrupted" if isinstance(error, asyncio.CancelledError) else message_of(error)
+            raise Failure(Status.UNSAVED, f"{pad} may have only a part of {asked.file}: {reason}. Import it again under another name") from None
     if asked.json:
         told({"pad": pad, "rev": rev, "characters": len(text)})
     else:

@@ -16,8 +16,8 @@ from .opening import connected_by
 # Commands that need one session.
 _COMMANDS: dict[str, Callable[[Session, argparse.Namespace], Awaitable[None]]] = {
     "list": reading.list_pads, "show": reading.show, "export": reading.export, "history": reading.history, "diff": reading.diff,
-    "follow": follow.follow, "create": writing.create, "append": writing.append, "comment": writing.comment, "grant": writing.grant,
-    "hand": writing.hand, "close": closing.close, "reopen": closing.reopen, "mark": names.mark, "marks": names.marks,
+    "follow": follow.follow, "create": writing.create, "comment": writing.comment, "grant": writing.grant, "hand": writing.hand,
+    "close": closing.close, "reopen": closing.reopen, "mark": names.mark, "marks": names.marks,
 }
 
 
@@ -32,6 +32,8 @@ async def _run(asked: argparse.Namespace) -> None:
     connected = connected_by(found)
     if asked.command == "edit":
         await edit.edit(connected, asked)
+    elif asked.command == "append":
+        await writing.append(connected, asked)
     elif asked.command == "import":
         await import_file.import_file(connected, found, asked)
     else:

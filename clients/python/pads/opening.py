@@ -19,14 +19,19 @@ Connected: TypeAlias = Callable[[float], AbstractAsyncContextManager[Session]]
 
 
 def connected_by(settings: Settings) -> Connected:
-    """Sessions of these settings."""
+    """Sessions of these settings.
+
+    Raises:
+        Failure: the address has another form, or its kind needs a package that is not there.
+    """
+    try:
+        open_channel = opener(settings.address, settings.tls())
+    except (ValueError, ImportError) as error:
+        raise Failure(Status.USAGE, str(error)) from None
 
     @asynccontextmanager
     async def connected(patience: float = 0) -> AsyncIterator[Session]:
-        try:
-            session = Session(opener(settings.address, settings.tls()))
-        except (ValueError, ImportError) as error:
-            raise Failure(Status.USAGE, str(error)) from None
+        session = Session(open_channel)
         await _log_in(session, settings, patience)
         try:
             yield session

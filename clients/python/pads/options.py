@@ -2,6 +2,7 @@
 from __future__ import annotations
 
 import argparse
+import sys
 from dataclasses import dataclass
 from typing import Any, NoReturn
 
@@ -41,6 +42,15 @@ class Word:
 
 def word(*names: str, help: str, **more: Any) -> Word:
     return Word(names, help, more)
+
+
+def _text(argument: str) -> str:
+    """An argument that goes into a pad. Python has bytes of it that are no text as halves of surrogate pairs."""
+    try:
+        argument.encode()
+    except UnicodeEncodeError:
+        raise argparse.ArgumentTypeError(f"it is not {sys.getfilesystemencoding().upper()}") from None
+    return argument
 
 
 PAD = word("pad", metavar="PAD", help="The pad's name: 1 to 32 of a-z, 0-9 and -")
@@ -83,7 +93,7 @@ COMMANDS = [
     ),
     Command("create", "Creates a pad, which you own", (PAD, JSON)),
     Command(
-        "append", "Puts lines at the end of a pad", (PAD, word("text", nargs="*", metavar="TEXT", help="A line; without any, lines are read from standard input"), JSON),
+        "append", "Puts lines at the end of a pad", (PAD, word("text", type=_text, nargs="*", metavar="TEXT", help="A line; without any, lines are read from standard input"), JSON),
     ),
     Command(
         "edit", "Opens a pad in your editor, and sends what you changed", (PAD, JSON),
@@ -108,7 +118,7 @@ COMMANDS = [
     ),
     Command(
         "comment", "Comments on words of a pad, lists its comments, or resolves one", (
-            PAD, word("text", nargs="?", metavar="TEXT", help="What you say; without it, the comments are listed"),
+            PAD, word("text", type=_text, nargs="?", metavar="TEXT", help="What you say; without it, the comments are listed"),
             word("--on", metavar="WORDS", help="The words that you comment on"),
             word("--nth", type=int, metavar="N", help="Which of several places that have these words [default: there has to be only one]"),
             word("--resolve", metavar="NAME", help="Resolves the comment of this name, as the list shows it"), JSON,
@@ -124,7 +134,7 @@ COMMANDS = [
     Command(
         "mark", "Names a revision, such as the one that was approved", (
             PAD, word("rev", type=int, nargs="?", metavar="REV", help="A revision [default: the newest]"),
-            word("text", metavar="TEXT", help="The name, of at most 100 characters"), JSON,
+            word("text", type=_text, metavar="TEXT", help="The name, of at most 100 characters"), JSON,
         ),
         "A name is never changed or taken away. It is this server's own: other servers are not told.",
     ),

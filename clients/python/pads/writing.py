@@ -3,17 +3,16 @@ from __future__ import annotations
 
 import argparse
 import asyncio
-import getpass
-import sys
 import tempfile
 
 from vindrughe import PadError, PlacedComment, Session, connect
 from vindrughe.requests import Name
 
-from . import settings as configuration
-from .failure import Failure, Status, message_of
+from . import settings as configuration, standard_input
+from .author_names import slug
+from .failure import Failure, Status, failure_of, message_of
 from .formats import comment_of
-from .opening import joined
+from .opening import Connected, joined
 from .reading import told
 from .settings import Settings
 
@@ -50,28 +49,31 @@ async def create(session: Session, asked: argparse.Namespace) -> None:
         told({"pad": asked.pad, "rev": 0})
 
 
-async def append(session: Session, asked: argparse.Namespace) -> None:
-    """A line of its own: where the pad does not end with a new line, one is put before."""
-    text = "\n".join(asked.text) if asked.text else sys.stdin.read()
+async def append(connected: Connected, asked: argparse.Namespace) -> None:
+    """A line of its own: where the pad does not end with a new line, one is put before. What came by standard input is lost with
+    the program, so from then on whatever fails leaves it in a file."""
+    text = "\n".join(asked.text) if asked.text else standard_input.read_text()
     try:
-        pad = await joined(session, asked.pad, asked.patience)
-        if text:
-            start = "" if not pad.text or pad.text.endswith("\n") else "\n"
-            pad.append(f"{start}{text}" if text.endswith("\n") else f"{start}{text}\n")
-        rev = await saved(session, asked.patience)
+        async with connected(asked.patience) as session:
+            pad = await joined(session, asked.pad, asked.patience)
+            if text:
+                start = "" if not pad.text or pad.text.endswith("\n") else "\n"
+                pad.append(f"{start}{text}" if text.endswith("\n") else f"{start}{text}\n")
+            rev = await saved(session, asked.patience)
     except (Failure, PadError, asyncio.CancelledError) as error:
-        reason = "it was interrupted" if isinstance(error, asyncio.CancelledError) else message_of(error)
-        raise Failure(Status.UNSAVED, f"not known to be saved: {reason}. Your text is in {_kept(asked.pad, text)}") from None
+        raise _unsaved(asked.pad, text, error) from None
     if asked.json:
         told({"rev": rev})
 
 
-def _kept(pad: str, text: str) -> str:
-    """Keeps words in a file, which only its owner can read."""
-    handle, name = tempfile.mkstemp(prefix=f"{pad}-", suffix=".txt")
+def _unsaved(pad: str, text: str, error: BaseException) -> Failure:
+    """Why it is not known whether words are saved, and where they are kept: in a file that only its owner can read."""
+    reason = "it was interrupted" if isinstance(error, asyncio.CancelledError) else message_of(error)
+    # The name need not be one that a pad can have.
+    handle, name = tempfile.mkstemp(prefix=f"{slug(pad) or 'pad'}-", suffix=".txt")
     with open(handle, "w", encoding="utf-8", newline="") as file:
         file.write(text)
-    return name
+    return Failure(Status.UNSAVED, f"not known to be saved: {reason}. Your text is in {name}")
 
 
 # ---- comments
@@ -125,9 +127,22 @@ async def _make(session: Session, asked: argparse.Namespace) -> None:
     if not 1 <= number <= len(places):
         raise Failure(Status.USAGE, f"--nth {number}: the pad has the words {asked.on!r} {len(places)} times")
     at = places[number - 1]
-    name = await session.comment(at, at + len(asked.on), asked.text)
+    name = await _made(session, session.comment(at, at + len(asked.on), asked.text), asked)
     if asked.json:
         told({"name": list(name)})
+
+
+async def _made(session: Session, comment: asyncio.Future[Name], asked: argparse.Namespace) -> Name:
+    """The name of a comment, once the server has it."""
+    try:
+        await saved(session, asked.patience)
+        if not comment.done():  # it was given up with a text that the server does not have
+            raise PadError("the server has another text of the pad by now")
+        return comment.result()
+    except (Failure, PadError) as error:
+        if isinstance(error, PadError) and failure_of(error).status == Status.REFUSED:
+            raise
+        raise _unsaved(asked.pad, asked.text, error) from None
 
 
 async def _resolve(session: Session, asked: argparse.Namespace) -> None:
@@ -168,14 +183,14 @@ async def hand(session: Session, asked: argparse.Namespace) -> None:
 
 async def log_in(asked: argparse.Namespace) -> None:
     """The token is typed, or read from standard input where that is no terminal. It is kept once the server has taken it."""
-    token = getpass.getpass(f"Token of {asked.name}: ") if sys.stdin.isatty() else sys.stdin.readline().strip()
+    token = standard_input.read_secret(f"Token of {asked.name}: ")
     if not token:
         raise Failure(Status.USAGE, "no token was given")
     settings = Settings(asked.address, asked.name, token, asked.ca or "")
     try:
         async with connect(asked.address, name=asked.name, token=token, tls=settings.tls()) as session:
             me = session.me
-    except ValueError as error:
+    except (ValueError, ImportError) as error:
         raise Failure(Status.USAGE, str(error)) from None
     configuration.write(asked.server or asked.name, settings)
     print(f"You are {me}. The token is in {configuration.path_of_file()}.")

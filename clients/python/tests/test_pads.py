@@ -1,14 +1,17 @@
 """The command line: moments, settings, formats, options."""
+import asyncio
 import os
+import signal
 import subprocess
 import tempfile
 import unittest
+from collections.abc import Callable
 from datetime import datetime, timedelta, timezone
 from html.parser import HTMLParser
 from pathlib import Path
 from unittest import mock
 
-from pads import completion, options, settings
+from pads import completion, options, settings, standard_input
 from pads.colours import Colours
 from pads.failure import Failure, Status
 from pads.follow import _changed_lines as changed_lines
@@ -159,6 +162,31 @@ class MarksTest(unittest.TestCase):
         self.assertEqual(Colours("never").author("ann@1", "x"), "x")
 
 
+class StandardInputTest(unittest.TestCase):
+    """What is read while asyncio runs, as the commands read it."""
+
+    @staticmethod
+    async def read(read: Callable[[], str]) -> str:
+        with mock.patch("sys.stdin", mock.Mock(read=read)):
+            return standard_input.read_text()
+
+    @staticmethod
+    def interrupted() -> str:
+        """Somebody interrupts, and goes on to type."""
+        os.kill(os.getpid(), signal.SIGINT)
+        return "typed"
+
+    def test_an_interrupt_ends_it_at_once(self) -> None:
+        with self.assertRaises(KeyboardInterrupt):
+            asyncio.run(self.read(self.interrupted))
+        self.assertIs(signal.getsignal(signal.SIGINT), signal.default_int_handler)
+
+    def test_an_interrupt_that_is_ignored_stays_so(self) -> None:
+        before = signal.signal(signal.SIGINT, signal.SIG_IGN)
+        self.addCleanup(signal.signal, signal.SIGINT, before)
+        self.assertEqual(asyncio.run(self.read(self.interrupted)), "typed")
+
+
 class OptionsTest(unittest.TestCase):
     def test_each_command_has_its_help(self) -> None:
         told = options.help_text()
@@ -177,6 +205,12 @@ class OptionsTest(unittest.TestCase):
     def test_options_may_stand_anywhere(self) -> None:
         self.assertEqual(options.parse(["--json", "show", "p", "--rev", "3"]).rev, 3)
         self.assertEqual(options.parse(["append", "p", "one", "--json", "two"]).text, ["one", "two"])
+
+    def test_what_is_no_text_is_refused(self) -> None:
+        for words in (["append", "p", "caf\udce9"], ["comment", "p", "caf\udce9", "--on", "b"], ["mark", "p", "caf\udce9"]):
+            with self.subTest(words=words), self.assertRaisesRegex(Failure, "argument TEXT: it is not UTF-8") as raised:
+                options.parse(words)
+            self.assertEqual(raised.exception.status, Status.USAGE)
 
     def test_bash_takes_the_completion(self) -> None:
         script = completion.bash()

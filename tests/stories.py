@@ -269,7 +269,7 @@ COMMAND_LINE = [
     refused("no cells", "--replica 1 --accounts accounts", "--cells"),
     refused("no replica", "--cells 1 --accounts accounts", "--replica"),
     refused("replica 0", ARGS.replace("replica 1", "replica 0"), "--replica"),
-    refused("cells 131073", ARGS.replace("cells 2", "cells 4097"), "--cells"),
+    refused("cells 131073", ARGS.replace("cells 2", "cells 131073"), "--cells"),
     *[refused(f"present {text}", f"{ARGS} --present={text}", "--present") for text in ["0", "1025", "x"]],
     refused("--present twice", f"{ARGS} --present 1 --present 2", "--present"),
     run("present 1024", "# x\n", "# x\n", args=f"{ARGS} --present 1024"),

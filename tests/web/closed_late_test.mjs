@@ -74,7 +74,7 @@ async function commented() {
   await world.settle();
   await world.clock.finish(bob.session.close());
   const said = await world.clock.finish(session.comment(0, 3, "a remark").then(() => "made", (error) => error.code));
-  await world.advance(SECOND);
+  await world.advance(15 * SECOND);
   tell("an owner whose comment is refused learns why", said === 330 && session.isClosed && !session.mayComment, `${said}, ${session.isClosed}`);
   tell("and keeps its words", session.kept.text.includes("a remark"), session.kept.text);
   await world.clock.finish(bob.session.reopen());

@@ -441,7 +441,6 @@ export class Session extends Connection {
       this.kept.add(text);
       this.tell("refused", reply, text);
     }
-    if (NEWS.includes(reply.code)) this.readRights().catch(NOTHING);
     this.tell("state");
     return isPassing;
   }
